@@ -61,6 +61,13 @@ extern "C" {
 /* The most bytes of a header text. */
 #define GIX_DATE_MAX_HEADER 26
 
+/* What TZ means where it is not set: the file of the machine's zone. */
+#define GIX_DATE_MACHINE_ZONE "/etc/localtime"
+
+/* The most bytes of a file that is read as a zone, and the room to read one. */
+#define GIX_DATE_MAX_ZONE_FILE 1048576
+#define GIX_DATE_ZONE_FILE_ROOM (GIX_DATE_MAX_ZONE_FILE + 1)
+
 /* How a call ended. Each call lists the statuses that it answers beside GIX_DATE_OK. After these
  * only *len changes, and after GIX_DATE_UNCLEAR *place. git_date.h has the numbers between. */
 enum gix_date_status {
@@ -116,7 +123,10 @@ enum gix_date_status {
     GIX_DATE_ONLY_CRUD = 30,
     /* The time is before 1970, so Git cannot write it. When shown: that of an identity line is, or is
      * by its own clock. */
-    GIX_DATE_BEFORE_EPOCH = 31
+    GIX_DATE_BEFORE_EPOCH = 31,
+    /* The file of the zone counts leap seconds, as those in /usr/share/zoneinfo/right. No time of Git
+     * does. */
+    GIX_DATE_ZONE_COUNTS_LEAP_SECONDS = 32
 };
 
 /* What a status means, in English; "unknown status" for another number. */
@@ -171,6 +181,8 @@ static inline const char *gix_date_status_text(uint32_t status)
         return "the name consists only of disallowed characters";
     case GIX_DATE_BEFORE_EPOCH:
         return "a time before 1970 cannot be written or shown";
+    case GIX_DATE_ZONE_COUNTS_LEAP_SECONDS:
+        return "the file of the zone counts leap seconds";
     default:
         return "unknown status";
     }
@@ -368,13 +380,49 @@ uint32_t gix_date_parse(const char *text, size_t text_len, uint32_t raw_offsets,
                         gix_date_time *time) GIX_DATE_NONNULL(4);
 
 /* Reads a zone for any number of calls. A text that begins with TZif is a file, as those in
- * /usr/share/zoneinfo; "+0200", "-03:30" and "+02" are offsets; any other is a POSIX rule,
- * "EST5EDT,M3.2.0,M11.1.0". What the zone held before is freed. Takes memory for a file and a rule.
- * After a refusal the zone is as it was.
- * GIX_DATE_NOT_TEXT, GIX_DATE_INVALID_ZONE, GIX_DATE_OUT_OF_MEMORY. */
+ * /usr/share/zoneinfo; "+0200", "-03:30" and "+02" are offsets; "UTC" and "GMT" are UTC; any other is
+ * a POSIX rule, "EST5EDT,M3.2.0,M11.1.0". One without dates, "CET-1CEST", has those of the United
+ * States, as in the C library. What the zone held before is freed. Takes memory for a file and a
+ * rule. After a refusal the zone is as it was.
+ * GIX_DATE_NOT_TEXT, GIX_DATE_INVALID_ZONE, GIX_DATE_ZONE_COUNTS_LEAP_SECONDS,
+ * GIX_DATE_OUT_OF_MEMORY. */
 GIX_DATE_MUST_USE
 uint32_t gix_date_zone_read(const void *text, size_t text_len, gix_date_zone *zone)
     GIX_DATE_NONNULL(3);
+
+/* Finds the zone that values of TZ and TZDIR mean, which end at NUL, as the C library does. NULL is
+ * one that is not set: gix_date_zone_find(getenv("TZ"), getenv("TZDIR"), &zone) finds the machine's.
+ *
+ * A TZ that is a rule with its dates is that rule. Any other names a file: below TZDIR, or below
+ * /usr/share/zoneinfo without it, or from the root if it begins with '/'. Where there is no such
+ * file, it is read as gix_date_zone_read reads a text, but for offsets. A colon in front says nothing.
+ * An empty TZ is UTC. Without TZ the file is /etc/localtime, and without that file it is UTC.
+ *
+ * A file that is there has to be a regular one, of 1 to 1048576 bytes; nothing waits for any other.
+ * What the zone held before is freed. Takes memory. After a refusal the zone is as it was.
+ * GIX_DATE_NOT_TEXT if TZ or a TZDIR that is needed is not UTF-8, GIX_DATE_INVALID_ZONE where `date`
+ * takes UTC in silence, GIX_DATE_ZONE_COUNTS_LEAP_SECONDS, GIX_DATE_OUT_OF_MEMORY. */
+GIX_DATE_MUST_USE
+uint32_t gix_date_zone_find(const char *tz, const char *tzdir, gix_date_zone *zone)
+    GIX_DATE_NONNULL(3);
+
+/* The steps of gix_date_zone_find, for a program that reads the file by itself. First the path of the
+ * file: it has no bytes where there is no file to read. GIX_DATE_NOT_TEXT, GIX_DATE_NO_ROOM. */
+GIX_DATE_MUST_USE
+uint32_t gix_date_zone_path(const char *tz, size_t tz_len, const char *tzdir, size_t tzdir_len,
+                            char *out, size_t out_len, size_t *len) GIX_DATE_NONNULL(7);
+
+/* Then its bytes, for which there has to be room for GIX_DATE_ZONE_FILE_ROOM: none where there is no
+ * such file. GIX_DATE_INVALID_ZONE where it may not be read as a zone. */
+GIX_DATE_MUST_USE
+uint32_t gix_date_zone_file(const char *path, void *bytes, size_t bytes_len, size_t *len)
+    GIX_DATE_NONNULL(1, 4);
+
+/* At last the zone, by the bytes of its file or by none. The statuses are those of
+ * gix_date_zone_find. */
+GIX_DATE_MUST_USE
+uint32_t gix_date_zone_named(const char *tz, size_t tz_len, const void *file, size_t file_len,
+                             gix_date_zone *zone) GIX_DATE_NONNULL(5);
 
 /* Makes a zone mean what another means. What it held before is freed. Takes memory where the other
  * holds some. GIX_DATE_OUT_OF_MEMORY. */

@@ -96,19 +96,55 @@ modes() {
     ./gix_date_tool --help | sed -nE 's/^([a-z]+) {3,}.*/\1/p'
 }
 
-# Makes in a new folder what is no file that a program may read as a zone, and prints the names. None of it may be opened.
-make_no_zones() {
-    mkdir -p "$1"
+# Makes in a new folder what a program may read as a zone, and what it may not. The pipe may not be opened.
+make_zone_files() {
+    mkdir -p "$1/Europe" "$1/folder"
+    cp /usr/share/zoneinfo/Asia/Kathmandu "$1/Europe/Berlin"
+    cp /usr/share/zoneinfo/Asia/Kathmandu "$1/sp ace"
+    cp /usr/share/zoneinfo/Asia/Kathmandu "$1/b"$'\xff'd
+    cp /usr/share/zoneinfo/right/UTC "$1/leaps"
+    ln -s leaps "$1/to-leaps"
+    ln -s 'sp ace' "$1/to-file"
+    ln -s loop "$1/loop"
     mkfifo "$1/pipe"
     ln -s pipe "$1/to-pipe"
     ln -s /dev/zero "$1/to-device"
     ln -s /proc/kmsg "$1/to-kernel"
     touch "$1/empty"
+    echo banana >"$1/text"
+    head -c 100 /usr/share/zoneinfo/Asia/Tokyo >"$1/short"
+    cp /usr/share/zoneinfo/Asia/Tokyo "$1/full"
     cp /usr/share/zoneinfo/Asia/Tokyo "$1/above"
+    truncate -s 1048576 "$1/full"
     truncate -s 1048577 "$1/above"
     cp "$1/above" "$1/huge"
     truncate -s 1G "$1/huge"
-    echo pipe to-pipe to-device to-kernel empty above huge
+}
+
+# The values of TZ and TZDIR of a row, as words of `env`.
+zone_words() {
+    local name value
+    words=(-u TZ -u TZDIR)
+    for name in TZ TZDIR; do
+        printf -v value %b "${1//FOLDER/"$zone_files"}"
+        [ "$value" = unset ] || words+=("$name=$value")
+        shift
+    done
+}
+
+# A command that shows 1688169600 in the machine's zone has to find each zone of tests/rows/zones.rows, or of `zone_rows`, or to refuse it.
+finds_zones() {
+    local tz tzdir wanted found words zone_files=$room/zone_files count=0
+    [ -e "$zone_files" ] || make_zone_files "$zone_files"
+    while IFS= read -r line; do
+        case $line in '' | '#'*) continue ;; esac
+        IFS=$'\x1f' read -r tz tzdir wanted <<<"${line//$'\t'/$'\x1f'}"
+        zone_words "$tz" "$tzdir"
+        found=$(timeout 20 env "${words[@]}" "$@" 2>/dev/null </dev/null) || { [ $? != 124 ] && found=refused || found='nothing in 20 seconds'; }
+        [ "$found" = "$wanted" ] || fail "at $(printf '%q ' "${words[@]}") $* finds $found, where it should be $wanted"
+        count=$((count + 1))
+    done <"${zone_rows:-tests/rows/zones.rows}"
+    echo "$*: it finds the zones of $count values of TZ and TZDIR, or refuses them"
 }
 
 # A command has to open no pipe of this path: who waits there for a reader goes on waiting.

@@ -60,7 +60,7 @@ put_dates() {
     cp "$2" "$room/$1/date.c"
     (
         cd "$room/$1" || exit
-        CPATH=$top/include:$top/bindings/c quietly make "${git_settings[@]}" date.o
+        CPATH=$top/include quietly make "${git_settings[@]}" date.o
         ld -r date.o "$library" -o dates.o
         mv dates.o date.o
         quietly make -j "$(nproc)" "${git_settings[@]}"

@@ -698,7 +698,7 @@ static void status_texts(void)
            "the number after the last of this header");
     for (uint32_t i = 0; i < sizeof of_formats / sizeof *of_formats; i++)
         EXPECT(!strcmp(git_date_status_text(GIT_DATE_FLAG_REFUSED + i), of_formats[i]), "%u", i);
-    EXPECT(!strcmp(git_date_status_text(GIX_DATE_BEFORE_EPOCH + 1), "unknown status"),
+    EXPECT(!strcmp(git_date_status_text(GIX_DATE_ZONE_COUNTS_LEAP_SECONDS + 1), "unknown status"),
            "the number after the last");
 }
 

@@ -1,7 +1,10 @@
 /* Prints the time that a date names now, in the machine's zone. A date without an offset is one of that
  * zone, and a relative one that leaves a guess is refused. */
-#include "machine_zone.h"
+#include "gix_date.h"
 
+#include <stdio.h>
+#include <stdlib.h>
+#include <string.h>
 #include <time.h>
 
 /* Reads a date at this moment. */
@@ -23,7 +26,7 @@ int main(int count, char **words)
         fputs("usage: now DATE\n", stderr);
         return 2;
     }
-    uint32_t status = read_machine_zone(&zone);
+    uint32_t status = gix_date_zone_find(getenv("TZ"), getenv("TZDIR"), &zone);
     if (status == GIX_DATE_OK)
         status = parse_now(words[1], &zone, &parsed, &place);
     gix_date_zone_free(&zone);

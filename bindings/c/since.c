@@ -1,8 +1,10 @@
 /* Shows the time that a date names as `git log --since` reads it now, in the machine's zone. Warns of
  * what Git ignores, and refuses what it does not understand. */
 #include "git_date.h"
-#include "machine_zone.h"
 
+#include <stdio.h>
+#include <stdlib.h>
+#include <string.h>
 #include <time.h>
 
 int main(int count, char **words)
@@ -17,7 +19,7 @@ int main(int count, char **words)
         fputs("usage: since DATE\n", stderr);
         return 2;
     }
-    uint32_t status = read_machine_zone(&zone);
+    uint32_t status = gix_date_zone_find(getenv("TZ"), getenv("TZDIR"), &zone);
     if (status == GIX_DATE_OK)
         status = git_date_approxidate_at(words[1], strlen(words[1]), &now, &zone, &date, &place);
     if (status == GIX_DATE_OK && !date.understood)

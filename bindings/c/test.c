@@ -390,10 +390,15 @@ static void offsets(void)
     EXPECT(offset == -16200, "a refusal stores nothing");
 }
 
+/* A TZif file of the first version: a header, one kind of time, and one leap second. */
+static const char leap_seconds[] = "TZif\0\0\0\0\0\0\0\0\0\0\0\0\0\0\0\0"
+                                   "\0\0\0\0\0\0\0\0\0\0\0\1\0\0\0\0\0\0\0\1\0\0\0\4"
+                                   "\0\0\0\0\0\0UTC\0\4\262\130\0\0\0\0\1";
+
 /* Texts that name no zone, after which a zone is as it was. */
 static void refused_zones(void)
 {
-    static const char *const texts[] = {"",      "banana", "TZif", "TZif5",  "UTC",        "+2600",
+    static const char *const texts[] = {"",      "banana", "TZif", "TZif5",  "UT",          "+2600",
                                         "+0260", "0200",   "+2",   "+02000", "CET-1CEST,J", "+02:0",
                                         "+02.30", "+02x30"};
     gix_date_zone zone = zone_of(TEXT(new_york));
@@ -404,7 +409,87 @@ static void refused_zones(void)
         EXPECT(gix_date_zone_read(zone_file, len, &zone) == GIX_DATE_INVALID_ZONE,
                "a file of %zu bytes", len);
     EXPECT(gix_date_zone_read(BYTES("\xff"), &zone) == GIX_DATE_NOT_TEXT, "no text");
+    EXPECT(gix_date_zone_read(BYTES(leap_seconds), &zone) == GIX_DATE_ZONE_COUNTS_LEAP_SECONDS, "leap seconds");
     EXPECT(!memcmp(&before, &zone, sizeof zone) && is_new_york(&zone), "a refusal stores nothing");
+    gix_date_zone_free(&zone);
+}
+
+/* Texts that mean a zone by themselves. In the last the United States had daylight saving time in October. */
+static void zones_of_texts(void)
+{
+    static const struct {
+        const char *text;
+        int32_t offset;
+    } rows[] = {{"UTC", 0}, {"gmt", 0}, {"CET-1", 3600}, {"CET-1CEST", 7200}, {"CET-1CEST,M3.5.0,M10.5.0/3", 7200}};
+    gix_date_zone zone = GIX_DATE_AT_OFFSET(60);
+    for (size_t i = 0; i < sizeof rows / sizeof *rows; i++)
+        EXPECT(gix_date_zone_read(TEXT(rows[i].text), &zone) == GIX_DATE_OK && shows(&zone, rows[i].offset), "%s",
+               rows[i].text);
+    gix_date_zone_free(&zone);
+}
+
+/* The paths of files that say zones. */
+static void paths_of_zones(void)
+{
+    static const struct {
+        const char *tz, *tzdir, *path;
+    } rows[] = {{"", "", ""},
+                {":", "/z", ""},
+                {"EST5EDT,M3.2.0,M11.1.0", "/z", ""},
+                {"Europe/Berlin", "", "/usr/share/zoneinfo/Europe/Berlin"},
+                {":Europe/Berlin", "/z", "/z/Europe/Berlin"},
+                {"CET-1CEST", "z", "z/CET-1CEST"},
+                {"UTC", "/z", "/z/UTC"},
+                {"/a/b", "/z", "/a/b"},
+                {GIX_DATE_MACHINE_ZONE, "", "/etc/localtime"}};
+    char path[64];
+    size_t len;
+    for (size_t i = 0; i < sizeof rows / sizeof *rows; i++)
+        EXPECT(gix_date_zone_path(TEXT(rows[i].tz), TEXT(rows[i].tzdir), path, sizeof path, &len) == GIX_DATE_OK &&
+                   len == strlen(rows[i].path) && !memcmp(path, rows[i].path, len),
+               "%s", rows[i].tz);
+    EXPECT(gix_date_zone_path(TEXT("a"), TEXT("/z"), path, 3, &len) == GIX_DATE_NO_ROOM && len == 4, "no room");
+    EXPECT(gix_date_zone_path(BYTES("\xff"), TEXT(""), path, sizeof path, &len) == GIX_DATE_NOT_TEXT, "no text");
+    EXPECT(gix_date_zone_path(TEXT("a"), BYTES("\xff"), path, sizeof path, &len) == GIX_DATE_NOT_TEXT, "no folder");
+    EXPECT(gix_date_zone_path(TEXT("UTC0"), BYTES("\xff"), path, sizeof path, &len) == GIX_DATE_OK && len == 0,
+           "a rule needs no folder");
+}
+
+/* Zones by values of TZ and the bytes of their files. */
+static void zones_are_found(void)
+{
+    static const char *const none[] = {"Europe/Berlin", "banana", "+0200", "/nonexistent"};
+    static const char *const utc[] = {"", ":", "UTC", ":gmt", GIX_DATE_MACHINE_ZONE};
+    gix_date_zone zone = GIX_DATE_AT_OFFSET(60);
+    for (size_t i = 0; i < sizeof none / sizeof *none; i++) {
+        EXPECT(gix_date_zone_named(TEXT(none[i]), NULL, 0, &zone) == GIX_DATE_INVALID_ZONE && is_at(&zone, 60), "%s", none[i]);
+        EXPECT(gix_date_zone_find(none[i], "/nonexistent", &zone) == GIX_DATE_INVALID_ZONE && is_at(&zone, 60), "%s", none[i]);
+    }
+    EXPECT(gix_date_zone_named(BYTES("\xff"), NULL, 0, &zone) == GIX_DATE_NOT_TEXT && is_at(&zone, 60), "no text");
+    EXPECT(gix_date_zone_named(TEXT("UTC"), BYTES("TZif"), &zone) == GIX_DATE_INVALID_ZONE && is_at(&zone, 60), "no file");
+    EXPECT(gix_date_zone_named(TEXT("UTC"), BYTES(leap_seconds), &zone) == GIX_DATE_ZONE_COUNTS_LEAP_SECONDS &&
+               is_at(&zone, 60),
+           "leap seconds");
+    EXPECT(gix_date_zone_named(TEXT("banana"), BYTES(zone_file), &zone) == GIX_DATE_OK && is_new_york(&zone), "a file");
+    for (size_t i = 0; i < sizeof utc / sizeof *utc; i++) {
+        EXPECT(gix_date_zone_named(TEXT(utc[i]), NULL, 0, &zone) == GIX_DATE_OK && shows(&zone, 0), "%s", utc[i]);
+        refuse_after(0);
+        EXPECT(gix_date_zone_named(TEXT(utc[i]), NULL, 0, &zone) == GIX_DATE_OUT_OF_MEMORY, "%s", utc[i]);
+        refuse_after(SIZE_MAX);
+    }
+    static char bytes[GIX_DATE_ZONE_FILE_ROOM];
+    size_t len = 1;
+    EXPECT(gix_date_zone_file("/nonexistent/a", bytes, sizeof bytes, &len) == GIX_DATE_OK && len == 0, "no file");
+    EXPECT(gix_date_zone_file("/dev/null", bytes, sizeof bytes, &len) == GIX_DATE_INVALID_ZONE && len == 0, "a device");
+    EXPECT(gix_date_zone_file("/", bytes, sizeof bytes, &len) == GIX_DATE_INVALID_ZONE && len == 0, "a folder");
+    EXPECT(gix_date_zone_find("EST5EDT,M3.2.0,M11.1.0", NULL, &zone) == GIX_DATE_OK && is_new_york(&zone), "a rule");
+    EXPECT(gix_date_zone_find("", NULL, &zone) == GIX_DATE_OK && shows(&zone, 0), "nothing");
+    for (size_t granted = 0; granted < of_file.requests; granted++) {
+        refuse_after(granted);
+        EXPECT(gix_date_zone_named(TEXT("banana"), BYTES(zone_file), &zone) == GIX_DATE_OUT_OF_MEMORY && shows(&zone, 0),
+               "a file, after %zu requests", granted);
+        refuse_after(SIZE_MAX);
+    }
     gix_date_zone_free(&zone);
 }
 
@@ -869,10 +954,11 @@ static void status_texts(void)
         "the name is empty",
         "the name consists only of disallowed characters",
         "a time before 1970 cannot be written or shown",
+        "the file of the zone counts leap seconds",
     };
     for (uint32_t i = 0; i < sizeof later / sizeof *later; i++)
         EXPECT(strcmp(gix_date_status_text(GIX_DATE_NO_IDENTITY + i), later[i]) == 0, "%u", (unsigned)i);
-    EXPECT(strcmp(gix_date_status_text(GIX_DATE_BEFORE_EPOCH + 1), texts[unknown]) == 0,
+    EXPECT(strcmp(gix_date_status_text(GIX_DATE_ZONE_COUNTS_LEAP_SECONDS + 1), texts[unknown]) == 0,
            "the number after the last");
     EXPECT(strcmp(gix_date_status_text(UINT32_MAX), texts[unknown]) == 0, "the greatest number");
 }
@@ -894,6 +980,9 @@ int main(void)
     zones_are_read();
     offsets();
     refused_zones();
+    zones_of_texts();
+    paths_of_zones();
+    zones_are_found();
     zones_without_memory();
     copied_zones();
     careful_dates_by_zone_files();

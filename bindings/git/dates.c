@@ -4,7 +4,6 @@
  * Git's functions cannot refuse as the library does. Where the library refuses to read approximately, the
  * answer is now, and not understood. Where it refuses to show, the time 0 +0000 is shown. */
 #include "git_date.h"
-#include "machine_zone.h"
 
 /* Git's headers, last: they put macros in the place of functions of the C library. */
 #include "cache.h"
@@ -57,8 +56,7 @@ static const gix_date_zone *own_zone(void)
     static gix_date_zone zone;
     static bool is_read;
     if (!is_read)
-        read_machine_zone(&zone);
-    is_read = true;
+        is_read = gix_date_zone_find(getenv("TZ"), getenv("TZDIR"), &zone) != GIX_DATE_OUT_OF_MEMORY;
     return &zone;
 }
 

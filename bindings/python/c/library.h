@@ -183,5 +183,7 @@ CALL(show_git_time);
 CALL(age_of);
 CALL(times_of_lines);
 CALL(add_lines);
+PyObject *zone_path(PyObject *module, PyObject *arguments);
+PyObject *zone_file(PyObject *module, PyObject *path);
 
 #endif

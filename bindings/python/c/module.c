@@ -140,6 +140,8 @@ PyDoc_STRVAR(times_of_lines_doc, "times_of_lines($module, /, reader, data, begin
 "A Time or a refusal of each line from an index to another.");
 PyDoc_STRVAR(add_lines_doc, "add_lines($module, /, outputs, begin, so_far, reader, data, first, end, now, raw_offsets)\n--\n\n"
 "Puts the lines from an index to another into two outputs, and their refusals into those so far. How many lines are done.");
+PyDoc_STRVAR(zone_path_doc, "The path of the file that says the zone of a TZ and a TZDIR. It is empty if none does.");
+PyDoc_STRVAR(zone_file_doc, "The bytes of the file at a path; none if there is no file, and None if it may not be read as a zone.");
 PyDoc_STRVAR(connect_package_doc, "Keeps the classes, options and functions of the package that the calls use.");
 PyDoc_STRVAR(status_text_doc, "What a status means, in English.");
 PyDoc_STRVAR(versions_doc, "The versions of the library and of what it ports, as numbers.");
@@ -153,6 +155,8 @@ static PyMethodDef calls[] = {
     AS_CALL(show_git_time), AS_CALL(age_of),
     AS_CALL(times_of_lines), AS_CALL(add_lines),
     {"connect", (PyCFunction)(void (*)(void))connect_package, METH_FASTCALL | METH_KEYWORDS, connect_package_doc},
+    {"zone_path", zone_path, METH_VARARGS, zone_path_doc},
+    {"zone_file", zone_file, METH_O, zone_file_doc},
     {"status_text", status_text, METH_O, status_text_doc},
     {"versions", versions, METH_NOARGS, versions_doc},
     {NULL, NULL, 0, NULL}};

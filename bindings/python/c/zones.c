@@ -1,6 +1,7 @@
-/* Zones that were read, and moments. */
+/* Zones that were read, where their files are, and moments. */
 #include "library.h"
 
+#include <limits.h>
 #include <string.h>
 #include <structmember.h>
 
@@ -10,7 +11,7 @@
 struct zone {
     PyObject_HEAD
     gix_date_zone zone;
-    char is_read; /* else each call refuses it */
+    uint32_t status; /* of reading it: each call refuses a zone that was not read */
 };
 
 /* Whether the library takes a text for what Python gives it as: bytes for a file, a str for a rule. The library goes by how a text begins,
@@ -26,13 +27,12 @@ static bool is_what_it_seems(const struct text *text)
  * that each call refuses it in its turn among the arguments, by the status that it has for both. */
 static bool read_zone(const struct text *text, struct zone *self)
 {
-    const uint32_t status = is_what_it_seems(text) ? gix_date_zone_read(text->at, text->len, &self->zone) : GIX_DATE_INVALID_ZONE;
-    if (status == GIX_DATE_OUT_OF_MEMORY) {
+    self->status = is_what_it_seems(text) ? gix_date_zone_read(text->at, text->len, &self->zone) : GIX_DATE_INVALID_ZONE;
+    if (self->status == GIX_DATE_OUT_OF_MEMORY) {
         PyErr_NoMemory();
         return false;
     }
-    self->is_read = status == GIX_DATE_OK;
-    if (!self->is_read)
+    if (self->status != GIX_DATE_OK)
         self->zone = (gix_date_zone)GIX_DATE_AT_OFFSET(INT32_MAX);
     return true;
 }
@@ -66,7 +66,7 @@ static void free_zone(PyObject *object)
 }
 
 static PyMemberDef zone_members[] = {
-    {"is_read", T_BOOL, offsetof(struct zone, is_read), READONLY, "Whether it could be read. Calls refuse one that could not."},
+    {"status", T_UINT, offsetof(struct zone, status), READONLY, "The status of reading it, 0 if it was read. Calls refuse any other."},
     {NULL, 0, 0, 0, NULL}};
 
 static PyType_Slot zone_slots[] = {
@@ -77,6 +77,43 @@ static PyType_Slot zone_slots[] = {
     {0, NULL}};
 
 PyType_Spec zone_spec = {"gix_date._library.Zone", sizeof(struct zone), 0, Py_TPFLAGS_DEFAULT | Py_TPFLAGS_IMMUTABLETYPE, zone_slots};
+
+PyObject *zone_path(PyObject *module, PyObject *arguments)
+{
+    const struct state *state = state_of(module);
+    PyObject *first, *second;
+    struct text tz, tzdir;
+    char path[PATH_MAX];
+    size_t len;
+    if (!state || !PyArg_ParseTuple(arguments, "SS:zone_path", &first, &second) || !take_text(first, &tz) || !take_text(second, &tzdir))
+        return NULL;
+    const uint32_t status = gix_date_zone_path(tz.at, tz.len, tzdir.at, tzdir.len, path, sizeof path, &len);
+    if (status == GIX_DATE_NOT_TEXT)
+        return refuse(state, GIX_DATE_INVALID_ZONE, &tz, GIT_DATE_NOTHING);
+    /* No system has a file of a longer path. */
+    return PyBytes_FromStringAndSize(path, status == GIX_DATE_OK ? (Py_ssize_t)len : 0);
+}
+
+PyObject *zone_file(PyObject *module, PyObject *path)
+{
+    char *at, *bytes;
+    size_t len;
+    uint32_t status;
+    (void)module;
+    if (PyBytes_AsStringAndSize(path, &at, NULL) < 0)
+        return NULL;
+    bytes = PyMem_Malloc(GIX_DATE_ZONE_FILE_ROOM);
+    if (bytes == NULL)
+        return PyErr_NoMemory();
+    Py_BEGIN_ALLOW_THREADS
+    status = gix_date_zone_file(at, bytes, GIX_DATE_ZONE_FILE_ROOM, &len);
+    Py_END_ALLOW_THREADS
+    PyObject *file = status == GIX_DATE_OK ? PyBytes_FromStringAndSize(bytes, (Py_ssize_t)len) : Py_None;
+    if (file == Py_None)
+        Py_INCREF(file);
+    PyMem_Free(bytes);
+    return file;
+}
 
 /* What a callable of the package makes of an object. It has to be of a type. */
 static PyObject *made(PyObject *callable, PyObject *of, PyObject *type)
@@ -89,14 +126,30 @@ static PyObject *made(PyObject *callable, PyObject *of, PyObject *type)
     return object;
 }
 
-/* Keeps the zone of a rule, a file, or a name that is no rule. */
+/* Whether a str may be the key of a file, as it is no rule with its dates; -1 with an exception. */
+static int may_be_key(PyObject *object)
+{
+    struct text text;
+    char path[PATH_MAX];
+    size_t len;
+    if (!PyUnicode_Check(object))
+        return 0;
+    if (!take_text(object, &text))
+        return -1;
+    const uint32_t status = gix_date_zone_path(text.at, text.len, NULL, 0, path, sizeof path, &len);
+    drop_text(&text);
+    return status != GIX_DATE_OK || len > 0;
+}
+
+/* Keeps the zone of a file, by its bytes or its key, or of a rule. Refuses a file that counts leap seconds. */
 static bool keep_zone(const struct state *state, PyObject *object, struct moment *moment)
 {
-    moment->kept = (struct zone *)made(state->kept[READ_ZONE], object, state->kept[ZONE]);
-    if (moment->kept && !moment->kept->is_read && PyUnicode_Check(object)) {
-        Py_DECREF(moment->kept);
-        moment->kept = (struct zone *)made(state->kept[NAMED_ZONE], object, state->kept[ZONE]);
-    }
+    const int is_key = may_be_key(object);
+    if (is_key < 0)
+        return false;
+    moment->kept = (struct zone *)made(state->kept[is_key ? NAMED_ZONE : READ_ZONE], object, state->kept[ZONE]);
+    if (moment->kept && moment->kept->status == GIX_DATE_ZONE_COUNTS_LEAP_SECONDS)
+        return refuse(state, moment->kept->status, NULL, GIT_DATE_NOTHING) != NULL;
     return moment->kept != NULL;
 }
 

@@ -33,7 +33,7 @@ for now in NOWS:
 
 def in_new_zone(zone: Union[str, bytes]) -> bool:
     """Whether a zone can be read that is made for this call alone."""
-    return _library.Zone(zone).is_read
+    return _library.Zone(zone).status == 0
 
 
 def of_new_text(text: bytes) -> bool:
@@ -91,6 +91,8 @@ CALLS: List[Tuple[str, Callable[..., object], Tuple[object, ...]]] = [
     ("write_ident", write_ident, ("A" * 1000, "a", TIME)),
     ("to_time", GitTime(5, 60).to_time, ()),
     ("mode_named", _library.mode_named, ("iso",)),
+    ("zone_path", _library.zone_path, (b"Europe/Berlin", b"")),
+    ("zone_file", _library.zone_file, (bytes(FOLDER / "new_york_2023.tzif"),)),
     *(("Zone", in_new_zone, (zone,)) for zone in (RULE, FILE, "no rule", b"no file", b"TZif")),
     *(("parse", parse, ("2 days ago", now)) for now in NOWS),
     *(("parse_carefully", parse_carefully, ("2 days ago", now)) for now in NOWS),
@@ -150,7 +152,7 @@ def main() -> None:
             number += 1
         assert isinstance(call, Filled) or not keeps(call, arguments, NO_REQUEST), f"{call} keeps memory"
         requests[name] = requests.get(name, 0) + number - 1
-    assert len(requests) == 27 and all(requests[name] > 0 for name in requests if name not in ("mode_named", "age_of")), requests
+    assert len(requests) == 29 and all(requests[name] > 0 for name in requests if name not in ("mode_named", "age_of")), requests
     print(f"each of {sum(requests.values())} requests for memory is refused: MemoryError, and none is kept")
 
 

@@ -26,6 +26,12 @@ Text = Union[str, bytes]
 Named = TypeVar("Named")
 
 
+def file_of_utc(leaps: int) -> bytes:
+    """A TZif file of UTC, with so many leap seconds. Without them it is all ASCII."""
+    counts = b"".join(count.to_bytes(4, "big") for count in (0, 0, leaps, 0, 1, 4))
+    return b"TZif".ljust(20, b"\0") + counts + b"\0" * 6 + b"UTC\0" + b"\0\0\0\1" * 2 * leaps
+
+
 class NoRow(Exception):
     """The line is no row."""
 

@@ -6,6 +6,7 @@ import copy
 import dataclasses
 import io
 import mmap
+import os
 import pickle
 import re
 import sys
@@ -167,7 +168,7 @@ def all_refusals(below: Type[GixDateError]) -> Iterator[Type[GixDateError]]:
 
 def test_each_refusal_has_its_own_status_and_message() -> None:
     errors = [error for error in all_refusals(GixDateError) if error.__module__ in ("gix_date.errors", "gix_date.git")]
-    assert sorted(error.status for error in errors if error.status is not None) == [1, *range(4, 14), *range(15, 32)]
+    assert sorted(error.status for error in errors if error.status is not None) == [1, *range(4, 14), *range(15, 33)]
     assert {error for error in errors if error.status is None} == {NaiveDatetime, BeyondDatetime, NoDirective, gix_date.git.UnknownMode}
     messages = {str(error()) for error in errors}
     assert len(messages) == len(errors)
@@ -252,10 +253,10 @@ def test_a_file_may_be_in_the_package_tzdata(tmp_path: Path, monkeypatch: pytest
     (folder / "City").write_bytes(b"bytes")
     monkeypatch.syspath_prepend(tmp_path)
     assert tzif_of("Nowhere/City", ("/nowhere",)) == b"bytes"
-    assert tzif_of("Nowhere/Else", ("/nowhere",)) is None
-    assert tzif_of("Nothing/City", ("/nowhere",)) is None
+    assert not tzif_of("Nowhere/Else", ("/nowhere",))
+    assert not tzif_of("Nothing/City", ("/nowhere",))
     for outside in ("../City", "/etc/hostname", "", ".", "Nowhere/../City", "Ci\0ty", "Nowhere/Ci\0ty"):
-        assert tzif_of(outside, (str(folder),)) is None
+        assert not tzif_of(outside, (str(folder),))
 
 
 def test_files_are_looked_for_as_zoneinfo_does(tmp_path: Path) -> None:
@@ -347,20 +348,17 @@ def test_now_is_the_clock_of_the_machine(monkeypatch: pytest.MonkeyPatch) -> Non
 
 
 def test_now_is_in_the_zone_of_tz(monkeypatch: pytest.MonkeyPatch) -> None:
-    zones = [("JST-9", "JST-9"), ("", 0), (":", 0)]
-    for name, zone in zones:
+    monkeypatch.setenv("TZDIR", "/nowhere")
+    for name, zone in [("JST-9", "JST-9"), (":utc", "utc"), ("", 0), (":", 0)]:
         monkeypatch.setenv("TZ", name)
         now = gix_date.now()
         assert now.zone == zone
         assert abs(Time.from_datetime(datetime.now(timezone.utc)).seconds - now.seconds) < 60
-    for name in ("Asia/Tokyo", ":Asia/Tokyo", f"{zoneinfo.TZPATH[0]}/Asia/Tokyo"):
-        monkeypatch.setenv("TZ", name)
-        assert parse("1 second ago", gix_date.now()).offset == 32400
-    for name in ("Mars", "/nowhere", ":/nowhere", zoneinfo.TZPATH[0], "EST5EDT,M3", "\udcff", "a" * 256, "/" + "a" * 256, "a/" * 3000):
+    for name in ("Mars", ":/nowhere", "\udcff", "a" * 256, "/" + "a" * 256, "a/" * 3000):
         monkeypatch.setenv("TZ", name)
         with pytest.raises(InvalidZone) as caught:
             gix_date.now()
-        assert caught.value.text == name
+        assert caught.value.text == os.fsencode(name)
     monkeypatch.delenv("TZ")
     local = Path("/etc/localtime")
     assert gix_date.now().zone == (local.read_bytes() if local.is_file() else 0)

@@ -20,7 +20,7 @@ from gix_date import GitTime, GixDateError, InvalidInstant, InvalidZone, Moment,
 from gix_date import parse, parse_carefully, parse_lines
 from gix_date.moments import parts_in_zone, read_zone
 
-from rows import FOLDER
+from rows import FOLDER, file_of_utc
 
 RULE, FILE = "EST5EDT,M3.2.0,M11.1.0", (FOLDER / "new_york_2023.tzif").read_bytes()
 NEW_YORK = ZoneInfo("America/New_York")
@@ -142,7 +142,7 @@ def test_zones_keep_no_references() -> None:
 
     rule = Rule(RULE)
     goes = weakref.ref(rule)
-    assert _library.Zone(rule).is_read
+    assert _library.Zone(rule).status == 0
     del rule
     gc.collect()
     assert goes() is None  # since a zone was read, and has no text
@@ -157,7 +157,7 @@ WRONG: List[Union[str, bytes]] = [
     "", "no rule", "EST5EDT,M3", "+0200", "-03:30", "+02", "-00", "+9999", "+0200EST", "TZif", "TZif2" + "\0" * 39, "\ud800", "\0",
     b"", b"TZi", b"TZif", b"tzif", FILE[:-60], b" " + FILE, RULE.encode(), b"+0200", b"+02", b"\xff",
 ]  # fmt: skip
-WHOLE_IN_ASCII = b"TZif\0" + b"\0" * 15 + b"".join(count.to_bytes(4, "big") for count in (0, 0, 0, 0, 1, 4)) + b"\0" * 6 + b"UTC\0"
+WHOLE_IN_ASCII = file_of_utc(0)
 
 
 @pytest.mark.parametrize("zone", [*WRONG, WHOLE_IN_ASCII.decode()])
@@ -199,6 +199,9 @@ def test_zones_of_the_extension() -> None:
         lambda: type("Below", (_library.Zone,), {}),
         lambda: pickle.dumps(_library.Zone(RULE)),
         lambda: copy.copy(_library.Zone(RULE)),
+        lambda: _library.zone_path(b""),  # type: ignore[call-arg]
+        lambda: _library.zone_path("UTC", b""),  # type: ignore[arg-type]
+        lambda: _library.zone_file("/etc/localtime"),  # type: ignore[arg-type]
     ]
     for call in wrong:
         with pytest.raises(TypeError):
@@ -211,7 +214,7 @@ def test_zones_of_the_extension() -> None:
             parse("@5", Moment(SECONDS, 0, other))  # type: ignore[arg-type]
     with pytest.raises(TypeError, match="^a zone has to be an int, a str or bytes$"):
         parse("@5", Moment(SECONDS, 0, _library.Zone(RULE)))  # type: ignore[arg-type]
-    assert [_library.Zone(zone).is_read for zone in (RULE, FILE, "no rule", b"no file")] == [True, True, False, False]
+    assert [_library.Zone(zone).status for zone in (RULE, FILE, "no rule", b"no file")] == [0, 0, 10, 10]
 
 
 def test_other_refusals_stay() -> None:

@@ -19,7 +19,7 @@ from gix_date import is_canonical_header, parse, parse_carefully, parse_header, 
 from gix_date import GitTime, fsck, parse_ident, parse_signatures_into, write_ident, write_signature
 from gix_date.moments import read_zone, tzif_of
 
-from rows import FOLDER
+from rows import FOLDER, file_of_utc
 
 class Index:
     """A number of a caller, which makes a new int each time."""
@@ -40,6 +40,7 @@ MODE = git.DateMode(git.DateKind.ISO8601, True)
 TIME, NOW = Time(1660797906, 28800), Moment(1698400800, 0, 7200)
 IN_RULE = Moment(1698400800, 0, "EST5EDT,M3.2.0,M11.1.0")
 IN_FILE = Moment(1698400800, 0, (FOLDER / "new_york_2023.tzif").read_bytes())
+IN_LEAPS = Moment(1698400800, 0, file_of_utc(1))
 IN_NAMED, DAY = Moment(1698400800, 0, "Europe/Berlin"), datetime(2023, 10, 27, 12, tzinfo=timezone.utc)
 KEYS = [IN_RULE.zone, IN_FILE.zone, "Europe/Berlin", tzif_of("Europe/Berlin", TZPATH)]
 TEXT, BYTES = "5 +0100", b"5 +0100"
@@ -61,6 +62,11 @@ CALLS: List[Callable[[], object]] = [
     lambda: parse("2 days ago", IN_FILE),
     lambda: parse("banana", IN_FILE),
     lambda: parse("2 days ago", IN_NAMED),
+    lambda: parse("2 days ago", IN_LEAPS),
+    lambda: _library.zone_path(b"Europe/Berlin", b""),
+    lambda: _library.zone_path(b"\xff", b""),
+    lambda: _library.zone_file(bytes(FOLDER / "new_york_2023.tzif")),
+    lambda: _library.zone_file(b"\0"),
     lambda: parse("2 days ago", DAY),
     lambda: parse("2 days ago", DAY.replace(microsecond=123456)),
     lambda: parse("2 days ago", DAY.replace(tzinfo=None)),

@@ -42,6 +42,8 @@ pub enum Error {
     OnlyCrud,
     /// The time is before 1970, so Git cannot write it.
     BeforeEpoch,
+    /// The file of the zone counts leap seconds, which no time of Git does.
+    ZoneCountsLeapSeconds,
 }
 
 impl Error {
@@ -66,6 +68,7 @@ impl Error {
             29 => Error::EmptyName,
             30 => Error::OnlyCrud,
             31 => Error::BeforeEpoch,
+            32 => Error::ZoneCountsLeapSeconds,
             status => unreachable!("the library answers no status {status} here"),
         }
     }
@@ -92,6 +95,7 @@ impl fmt::Display for Error {
             Error::EmptyName => "the name is empty",
             Error::OnlyCrud => "the name consists only of disallowed characters",
             Error::BeforeEpoch => "a time before 1970 cannot be written or shown",
+            Error::ZoneCountsLeapSeconds => "the file of the zone counts leap seconds",
         })
     }
 }
@@ -144,7 +148,7 @@ mod tests {
     #[test]
     fn each_status_is_its_error() {
         let statuses = numbers(GIX_DATE, "gix_date_status", "GIX_DATE_");
-        assert_eq!(statuses.len(), 24);
+        assert_eq!(statuses.len(), 25);
         // The types of this crate rule out the first four, and `CarefulError` has the last two.
         let others = [
             "Ok",

@@ -82,6 +82,32 @@ extern "C" {
         time: *mut Time,
     ) -> u32;
     pub fn gix_date_zone_read(text: *const u8, text_len: usize, zone: *mut CZone) -> u32;
+    pub fn gix_date_zone_find(tz: *const u8, tzdir: *const u8, zone: *mut CZone) -> u32;
+    pub fn gix_date_zone_path(
+        tz: *const u8,
+        tz_len: usize,
+        tzdir: *const u8,
+        tzdir_len: usize,
+        out: *mut u8,
+        out_len: usize,
+        len: *mut usize,
+    ) -> u32;
+    // Steps of `gix_date_zone_find`, which takes them.
+    #[allow(dead_code)]
+    pub fn gix_date_zone_file(
+        path: *const u8,
+        bytes: *mut u8,
+        bytes_len: usize,
+        len: *mut usize,
+    ) -> u32;
+    #[allow(dead_code)]
+    pub fn gix_date_zone_named(
+        tz: *const u8,
+        tz_len: usize,
+        file: *const u8,
+        file_len: usize,
+        zone: *mut CZone,
+    ) -> u32;
     pub fn gix_date_zone_copy(from: *const CZone, zone: *mut CZone) -> u32;
     pub fn gix_date_zone_free(zone: *mut CZone);
     pub fn gix_date_offset_at(instant: *const Instant, zone: *const CZone, offset: *mut i32)
@@ -213,7 +239,9 @@ mod tests {
     fn declared(source: &str) -> Vec<String> {
         let (_, rest) = source.split_once("\nextern \"C\" {").unwrap();
         let (body, _) = rest.split_once("\n}").unwrap();
-        let body: String = body.split_whitespace().collect();
+        let lines = body.lines().map(str::trim);
+        let code = lines.filter(|line| !line.starts_with("//") && !line.starts_with('#'));
+        let body: String = code.flat_map(str::split_whitespace).collect();
         let calls = body.replace(",)", ")");
         calls
             .split_terminator(';')

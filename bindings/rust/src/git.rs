@@ -9,9 +9,9 @@
 //!
 //! In every zone each answer is Git's, as it reads the first date of a process, or a refusal by name ([`DateError`]); but a zone that
 //! is a rule changes before 1970 too. `docs/GIT_DATES.md` has the rules. Seconds count from 1970-01-01 00:00:00 UTC, an offset is seconds
-//! east of UTC, and a place counts bytes from the text's start. Memory is taken only to read the zone of a moment that is a rule
-//! or a file, and by [`show_by_format()`]. The module [`bytes`] has the calls that read for `&[u8]`, and [`ReadZone`](crate::ReadZone) those for a zone that
-//! is read once.
+//! east of UTC, and a place counts bytes from the text's start. Memory is taken only for the zone of a moment that is no
+//! offset, and by [`show_by_format()`]. The module [`bytes`] has the calls that read for `&[u8]`, and
+//! [`ReadZone`](crate::ReadZone) those for a zone that is read once.
 //!
 //! ```
 //! use gix_date_proved::git::{approxidate, parse_date, show_date};

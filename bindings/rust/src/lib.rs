@@ -4,10 +4,10 @@
 //! its own, and each refusal has a name ([`Error`]). `docs/RUST.md` lists what differs. The module [`git`] reads and shows dates
 //! as Git itself does.
 //!
-//! Seconds count from 1970-01-01 00:00:00 UTC, and an offset is seconds east of UTC. The library has no state, so many threads may
-//! call at once. It takes memory only for what is printed by a format or a pattern, and to read a [`Zone::Posix`] or a
-//! [`Zone::Tzif`]. This crate takes memory for each `String` that it gives. It reads the clock, `TZ` and zone files only in
-//! calls named `now` or `local`.
+//! Seconds count from 1970-01-01 00:00:00 UTC, and an offset is seconds east of UTC. Many threads may call at once. The library takes
+//! memory only for what is printed by a format or a pattern, and for a zone that is no [`Zone::Offset`]. This crate takes memory for
+//! each `String` that it gives. The clock, `TZ` and zone files are read only in calls named `now`, `local` or `named`; the crate keeps
+//! the machine's zone.
 //!
 //! ```
 //! use gix_date_proved as gix_date;
@@ -42,7 +42,7 @@ pub mod time;
 mod version;
 
 pub use error::{CarefulError, Error};
-pub use moment::{Instant, Moment, ReadZone, Zone, Zoned};
+pub use moment::{FoundZone, Instant, Moment, ReadZone, Zone, Zoned};
 pub use parse::careful::{parse_carefully, CarefulOptions, Texts, WithoutOffset};
 pub use parse::function::{is_canonical_header, parse, parse_header, parse_with, RawOffsets};
 pub use signature::{write_signature, Signature};

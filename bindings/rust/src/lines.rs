@@ -155,7 +155,7 @@ mod tests {
     #[test]
     fn each_status_is_its_error_in_the_words_of_the_headers() {
         let all = [
-            (GIX_DATE, "gix_date_status", "GIX_DATE_", 24),
+            (GIX_DATE, "gix_date_status", "GIX_DATE_", 25),
             (GIT_DATE, "git_date_status", "GIT_DATE_", 8),
         ];
         for (header, name, prefix, count) in all {

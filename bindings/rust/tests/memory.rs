@@ -18,7 +18,7 @@ use std::cell::Cell;
 use std::ffi::c_void;
 use std::panic::{catch_unwind, AssertUnwindSafe};
 use std::path::Path;
-use std::{fs, ptr};
+use std::{env, fs, ptr};
 
 /// The date of a line.
 const OF_LINE: GitTime = GitTime {
@@ -109,13 +109,16 @@ fn held_by<T>(call: impl FnOnce() -> T) -> (T, isize) {
 }
 
 /// A zone of each kind, how many requests reading it makes, and how many a clone.
-fn zones() -> [(Zone, usize, usize); 3] {
+fn zones() -> [(Zone, usize, usize); 4] {
     let folder = Path::new(env!("CARGO_MANIFEST_DIR")).join("../../crates/gix_date_rows/data");
-    let file = fs::read(folder.join("new_york_2023.tzif")).unwrap();
+    let path = folder.join("new_york_2023.tzif");
+    let file = fs::read(&path).unwrap();
+    env::set_var("TZ", path);
     [
         (Zone::Offset(7200), 0, 0),
         (Zone::Posix("EST5EDT,M3.2.0,M11.1.0".into()), 1, 1),
         (Zone::Tzif(file.into()), 3, 1),
+        (Zone::local().unwrap(), 1, 1),
     ]
 }
 

@@ -214,18 +214,21 @@ fn each_call_refuses_an_offset_that_is_too_wide() {
 
 /// A zone that cannot be read is refused by all that read it.
 fn is_refused(zone: Zone) {
-    let invalid = Error::InvalidZone;
-    assert_eq!(zone.read().unwrap_err(), invalid, "{zone:?}");
+    is_refused_by(Error::InvalidZone, zone);
+}
+
+fn is_refused_by(error: Error, zone: Zone) {
+    assert_eq!(zone.read().unwrap_err(), error, "{zone:?}");
     let at = || Moment {
         zone: zone.clone(),
         ..Moment::at_offset(0, 0)
     };
-    assert_eq!(parse("now", Some(at())), Err(invalid), "{zone:?}");
-    assert_eq!(at().to_time(), Err(invalid), "{zone:?}");
+    assert_eq!(parse("now", Some(at())), Err(error), "{zone:?}");
+    assert_eq!(at().to_time(), Err(error), "{zone:?}");
     let careful = parse_carefully("now", Some(at()), careful());
-    assert_eq!(careful, Err(CarefulError::Refused(invalid)), "{zone:?}");
+    assert_eq!(careful, Err(CarefulError::Refused(error)), "{zone:?}");
     let date = bytes::approxidate(b"now", &at());
-    assert_eq!(date, Err(DateError::Refused(invalid)), "{zone:?}");
+    assert_eq!(date, Err(DateError::Refused(error)), "{zone:?}");
 }
 
 #[test]
@@ -242,24 +245,31 @@ fn an_offset_as_a_text_is_no_rule() {
     }
 }
 
-/// The file of a zone that is always UTC: the header, a table without a change, and the rule. It is ASCII.
-fn ascii_file() -> Vec<u8> {
-    let table = |counts: &[u8]| {
+/// The file of a zone that is always UTC: the header, a table without a change, and the rule. It is ASCII but for its leap seconds.
+fn file_of_utc(leaps: &[u8]) -> Vec<u8> {
+    let table = |leaps: &[u8]| {
         let mut table = b"TZif2".to_vec();
         table.resize(20, 0);
-        for count in counts {
-            table.extend([0, 0, 0, *count]);
+        for count in [0, 0, leaps.len() as u8 / 12, 0, 1, 4] {
+            table.extend([0, 0, 0, count]);
         }
         table.extend(b"\0\0\0\0\0\0UTC\0");
+        table.extend(leaps);
         table
     };
-    let counts = [0, 0, 0, 0, 1, 4];
-    [table(&counts), table(&counts), b"\nUTC0\n".to_vec()].concat()
+    [table(&[]), table(leaps), b"\nUTC0\n".to_vec()].concat()
+}
+
+#[test]
+fn a_file_that_counts_leap_seconds_is_refused() {
+    let leap = [0, 0, 0, 0, 4, 178, 88, 0, 0, 0, 0, 1];
+    let file = file_of_utc(&leap);
+    is_refused_by(Error::ZoneCountsLeapSeconds, Zone::Tzif(file.into()));
 }
 
 #[test]
 fn a_file_is_no_rule() {
-    let file = ascii_file();
+    let file = file_of_utc(&[]);
     let now = Instant::at_second(5);
     let zone = Zone::Tzif(file[..].into()).read().unwrap();
     assert_eq!(zone.parse("now", now), Ok(Time::new(5, 0)));

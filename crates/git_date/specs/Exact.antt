@@ -2,6 +2,7 @@
 pub mod Reading
 pub mod Zones
 pub mod ZoneTexts
+pub mod Places
 pub mod Decimals
 pub mod Outcome
 pub mod Fast

@@ -56,4 +56,8 @@ pub use show::{
     Age, DateText, OwnDateError, OwnDateText, age_at, show_date, show_date_at, show_git_time,
 };
 pub use zones::decimals::{decimal_of_offset, offset_of_decimal};
+pub use zones::places::{
+    MACHINE_ZONE, ZONE_FOLDER, zone_file, zone_folder, zone_of_text, zone_without_file,
+};
+pub use zones::tables::{TableError, zone_table};
 pub use zones::texts::zone_offset;

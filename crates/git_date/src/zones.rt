@@ -6,6 +6,8 @@ ghost use Rattle.gix_date.specs.Fields.Zoned.{is_instant};
 ghost use Rattle.git_date.specs.Exact.Zones.{states_of, same_flag, flagged, flagged_at, nearest, flag_steps, hour_off, by_flag, first_trail, moved, stops, is_back, before_leap, found_offset};
 
 pub(crate) mod decimals;
+pub(crate) mod places;
+pub(crate) mod tables;
 pub(crate) mod texts;
 
 use crate::clocks::is_instant;

@@ -9,7 +9,7 @@ use Rattle.git_date_tool.specs.Laws.{IsRefused, WrongWordsAreRefused}
 use Rattle.git_date_tool.specs.Program.{EndsCommand, message_of, status_of, usage_message}
 use Rattle.git_date_tool.specs.Runs.Runs.{output}
 use Rattle.git_date_tool.specs.declared.program.outcome.Outcome.{Outcome}
-use Rattle.git_date_tool.specs.declared.program.outcome.Outcome.TheVariants.{Answered, Fault, NoClock, Printed, Shown, Unquoted}
+use Rattle.git_date_tool.specs.declared.program.outcome.Outcome.TheVariants.{Answered, Shown}
 
 -- wrong words
 refused-by : (why : List ℕ) (reading writing telling : Change) (warned : StreamState) (outcome : Outcome) (status : Status)

@@ -1,10 +1,9 @@
 -- What the zone that is asked for is taken from, and that zone.
-use Rattle.std.proofs.Common.{◌≡◌, ◌≢◌, ◌==◌, ◌⊎◌, if◌then◌else◌, ap, refl, rules, subst, inl, inr, ℕ, Bool, true, false, List, [], ◌∷◌, Option, sym, ◌∙◌}
-use Rattle.gix_date.specs.Text.Characters.{colon}
-use Rattle.jiff.specs.Placed.{IsPosixZone}
-use Rattle.jiff.specs.Types.{TimeZone, UTC}
+use Rattle.std.proofs.Common.{◌≡◌, subst, inl, inr, ℕ, ℤ, List, Option, Some, None, sym}
+use Rattle.jiff.specs.Types.{TimeZone}
+use Rattle.git_date.specs.Exact.Places.{IsZoneWithoutFile, file_of}
 use Rattle.git_date.specs.Exact.ZoneTexts.{zone_offset}
-use Rattle.git_date_tool.specs.Zones.Zones.{IsAskedZone, IsFileSource, IsFileZone, IsMachineZone, IsPlainSource, IsPlainZone, IsRestSource, IsRestZone, IsRuleSource, IsSourceOf, IsTaken, IsTextOf, IsTextSource, IsTextZone, IsUtcOrFile, IsUtcOrFileSource, IsUtcSource, MayLackZone, NeedsSystem, is_utc, without_colon}
+use Rattle.git_date_tool.specs.Zones.Zones.{IsAskedZone, IsFileSource, IsFileZone, IsFixedAt, IsFixedSource, IsNamedSource, IsNamedZone, IsSaidSource, IsSourceOf, IsTaken, IsTextOf, IsTextSource, IsTextZone, MayLackZone, NeedsSystem}
 use Rattle.git_date_tool.specs.CommandLine.Command.{Asked}
 use Rattle.git_date_tool.specs.Program.{StartsNot, without_zone}
 use Rattle.git_date_tool.specs.declared.program.outcome.Outcome.{Outcome}
@@ -15,67 +14,43 @@ use Rattle.git_date_tool.specs.declared.zones.ZoneSource.TheVariants as sources
 use Rattle.git_date_tool.specs.declared.zones.ZoneText.{ZoneText}
 use Rattle.git_date_tool.specs.declared.zones.ZoneText.TheVariants as texts
 
--- that of UTC, and of a file
-utc : (source : ZoneSource) (zone : TimeZone) → IsUtcSource source → IsTaken source zone → zone ≡ UTC
-utc (sources.Plain z) zone h t = t ∙ h
-utc (sources.Table table) zone h t = absurd h
+-- that of a text, of a file, and of an offset
+said : (tz : List ℕ) (source : ZoneSource) (zone : TimeZone) → IsSaidSource tz source → IsTaken source zone → IsZoneWithoutFile tz (Some zone)
+said tz (sources.Plain z) zone h t = subst (λ (k : TimeZone). IsZoneWithoutFile tz (Some k)) (sym t) h
+said tz (sources.Table table) zone h t = absurd h
 
 file : (source : ZoneSource) (zone : TimeZone) → IsFileSource source → IsTaken source zone → IsFileZone zone
 file (sources.Plain z) zone h t = absurd h
 file (sources.Table table) zone h t = (table, h, t)
 
--- that of a name
-named : (is : Bool) (source : ZoneSource) (zone : TimeZone) → IsUtcOrFileSource is source → IsTaken source zone → IsUtcOrFile is zone
-named true source zone h t = utc source zone h t
-named false source zone h t = file source zone h t
-
--- that of an offset or a rule
-plain : (text : List ℕ) (source : ZoneSource) (zone : TimeZone) → IsPlainSource text source → IsTaken source zone → IsPlainZone (zone_offset text) text zone
-plain text (sources.Plain z) zone h t = subst (λ (k : TimeZone). IsPlainZone (zone_offset text) text k) (sym t) h
-plain text (sources.Table table) zone h t = absurd h
-
-rule : (text : List ℕ) (source : ZoneSource) (zone : TimeZone) → IsRuleSource text source → IsTaken source zone → IsPosixZone text zone
-rule text (sources.Plain z) zone h t = subst (λ (k : TimeZone). IsPosixZone text k) (sym t) h
-rule text (sources.Table table) zone h t = absurd h
-
--- that of ZONE
-of_text : (text : List ℕ) (source : ZoneSource) (zone : TimeZone) → IsTextSource text source → IsTaken source zone → IsTextZone text zone
-of_text text source zone (inl h) t = inl (plain text source zone h t)
-of_text text source zone (inr h) t = inr (h.0, named (is_utc text) source zone h.1 t)
+fixed : (seconds : ℤ) (source : ZoneSource) (zone : TimeZone) → IsFixedSource seconds source → IsTaken source zone → IsFixedAt seconds zone
+fixed seconds (sources.Plain z) zone h t = subst (λ (k : TimeZone). IsFixedAt seconds k) (sym t) h
+fixed seconds (sources.Table table) zone h t = absurd h
 
 -- that of a value of `TZ`
-of_rest : (rest : List ℕ) (source : ZoneSource) (zone : TimeZone) → IsRestSource rest source → IsTaken source zone → IsRestZone rest zone
-of_rest [] source zone h t = utc source zone h t
-of_rest (b ∷ bs) source zone (inl h) t = inl (rule (b ∷ bs) source zone h t)
-of_rest (b ∷ bs) source zone (inr h) t = inr (h.0, named (is_utc (b ∷ bs)) source zone h.1 t)
+named : (name : Option (List ℕ)) (tz : List ℕ) (source : ZoneSource) (zone : TimeZone) → IsNamedSource name tz source → IsTaken source zone
+    → IsNamedZone name tz zone
+named (Some name) tz source zone (inl h) t = inl (file source zone h t)
+named (Some name) tz source zone (inr h) t = inr (said tz source zone h t)
+named None tz source zone h t = said tz source zone h t
 
--- that of the machine
-of_machine : (source : ZoneSource) (zone : TimeZone) → IsFileSource source ⊎ IsUtcSource source → IsTaken source zone → IsMachineZone zone
-of_machine source zone (inl h) t = inl (file source zone h t)
-of_machine source zone (inr h) t = inr (utc source zone h t)
-
--- a text that does not begin with a colon
-by-first : (b : ℕ) (bs : List ℕ) (is : Bool) → (b == colon) ≡ is → ((rest : List ℕ) → b ∷ bs ≢ colon ∷ rest) → b ∷ bs ≡ (if is then bs else b ∷ bs)
-by-first b bs true e h =
-    let same : b ≡ colon = search rules in
-    absurd (h bs (ap (λ (c : ℕ). c ∷ bs) same))
-by-first b bs false e h = refl
-
-pub no-colon : (text : List ℕ) → ((rest : List ℕ) → text ≢ colon ∷ rest) → text ≡ without_colon text
-no-colon [] h = refl
-no-colon (b ∷ bs) h = by-first b bs (b == colon) refl h
+-- that of ZONE
+of_text : (offset : Option ℤ) (text : List ℕ) (source : ZoneSource) (zone : TimeZone) → IsTextSource offset text source → IsTaken source zone
+    → IsTextZone offset text zone
+of_text (Some seconds) text source zone h t = fixed seconds source zone h t
+of_text None text source zone h t = named (file_of text) text source zone h t
 
 -- the zone that is taken from there is asked for
 pub taken-is : (asked : Option (List ℕ)) (text : ZoneText) (source : ZoneSource) (zone : TimeZone) → IsTextOf asked text → IsSourceOf text source
     → IsTaken source zone → IsAskedZone asked zone
 taken-is asked (texts.Zone text) source zone is h t =
-    subst (λ (a : Option (List ℕ)). IsAskedZone a zone) (sym is) (of_text text.now source zone h t)
+    subst (λ (a : Option (List ℕ)). IsAskedZone a zone) (sym is) (of_text (zone_offset text.now) text.now source zone h t)
 taken-is asked (texts.Tz text) source zone is h t =
-    subst (λ (a : Option (List ℕ)). IsAskedZone a zone) (sym is) (inl (text.now, of_rest (without_colon text.now) source zone h t))
+    subst (λ (a : Option (List ℕ)). IsAskedZone a zone) (sym is) (text.now, named (file_of text.now) text.now source zone h t)
 taken-is asked texts.TzNotText source zone is h t = absurd h
 taken-is asked texts.TzNoMemory source zone is h t = absurd h
 taken-is asked texts.Machine source zone is h t =
-    subst (λ (a : Option (List ℕ)). IsAskedZone a zone) (sym is) (inr (of_machine source zone h t))
+    subst (λ (a : Option (List ℕ)). IsAskedZone a zone) (sym is) (h.0, named (file_of h.0) h.0 source zone h.1 t)
 
 -- where no zone can be taken
 pub may-lack : (asked : Option (List ℕ)) (text : ZoneText) → IsTextOf asked text → MayLackZone text → NeedsSystem asked

@@ -43,10 +43,11 @@ use std::time::Clock;
 /// Does what the words of a command line, without the program's name, ask for: answers each text, or each line of the reader
 /// if there is no text, or writes the help or the version. Of wrong words it says which and why, and how it is called.
 ///
-/// ZONE is an offset to 25:59, or else a POSIX rule with its dates, or else a name of the time zone database, which `UTC` need not be, or
-/// the path of a TZif file, which begins with `/` or `./`. Without it `TZ` says the zone: behind a colon in front it is a rule, a name
-/// or a path from `/`, or UTC if nothing stands there. Else it is that of `/etc/localtime`, and UTC if there is no such file. That the
-/// clock, `TZ`, `TZDIR` and the files are the machine's is trusted: no contract can say what they hold.
+/// ZONE is an offset to 25:59, or else what `TZ` may be, but that `./` begins the path of a file of the current folder. Without it
+/// `TZ` says the zone: a POSIX rule, or else a TZif file by a path from `/` or a name below `TZDIR` or the system's folder, or UTC if it
+/// is empty; a colon in front says nothing. Without `TZ` it is that of `/etc/localtime`. Where there is no such file,
+/// [`git_date::zone_without_file`] says the zone. That the clock, `TZ`, `TZDIR` and the files are the machine's is trusted: no contract can
+/// say what they hold.
 ///
 /// [`Status::Success`] if each text was read and shown, [`Status::Failure`] if one was not or the run has a fault, and [`Status::Usage`]
 /// if the words, NOW or the zone are wrong. Takes memory for a line, for zones and for formats.

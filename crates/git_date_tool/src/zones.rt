@@ -1,13 +1,17 @@
 //! The zone of the moment.
-ghost use Rattle.std.specs.Prelude.{◌≡◌, IfOk, MatchResult, false, option_map};
+ghost use Rattle.std.specs.Prelude.{◌≡◌, MatchResult, None, option_map};
 ghost use Rattle.jiff.specs.ZoneView.{plain_zone};
-ghost use Rattle.git_date_tool.specs.Zones.Zones.{IsFileSource, MayLackRest, is_utc, IsMachineSource, IsNamedSource, IsRestSource, IsSourceOf, IsTaken, IsTextOf, IsTextSource, MayLackText, MayLackZone, without_colon};
+ghost use Rattle.git_date.specs.Exact.Places.{file_of};
+ghost use Rattle.git_date.specs.Exact.ZoneTexts.{zone_offset};
+ghost use Rattle.git_date_tool.specs.Zones.Zones.{IsName, IsNamedSource, IsSaidSource, IsSourceOf, IsTaken, IsTextOf, IsTextSource, MayLackText, MayLackZone};
+ghost use Rattle.git_date_tool.specs.declared.zones.ZoneText.TheVariants as texts;
 
 pub(crate) mod files;
 mod offsets;
 
-use crate::zones::files::{NoZone, ZoneFault, read_named, read_table};
+use crate::zones::files::{NoZone, ZoneFault, read_named, table_of};
 use crate::zones::offsets::offset_zone;
+use git_date::{MACHINE_ZONE, zone_file, zone_without_file};
 use jiff::tz::{TimeZone, Tzif};
 use std::env::VarError;
 use std::rt::{Env, Files};
@@ -70,83 +74,69 @@ pub(crate) fn zone_source<S: Files + Env + AllocGlobal>(
 {
     match text {
         ZoneText::Zone(text) => text_source(system, text),
-        ZoneText::Tz(text) => rest_source(system, without_colon(text)),
+        ZoneText::Tz(text) => named_source(system, text, false),
         ZoneText::TzNotText => Err(NoZone::Text(ZoneFault::NotText)),
         ZoneText::TzNoMemory => Err(NoZone::Memory),
         ZoneText::Machine => machine_source(system),
     }
 }
 
-/// What a value of `TZ` says: a colon in front says nothing.
-fn without_colon(text: &str) -> &str
-    ensures { result.now ≡ without_colon text.now }
-{
-    match text.strip_prefix(':') {
-        Some(rest) => rest,
-        None => text,
-    }
-}
-
-/// What the zone of ZONE is taken from: an offset, a POSIX rule, the path of a file of the current folder, or a name.
+/// What the zone of ZONE is taken from: an offset, or else as a value of `TZ`, but that `./` begins the path of a file of the current
+/// folder.
 fn text_source<S: Files + Env + AllocGlobal>(system: &S, text: &str) -> Result<ZoneSource, NoZone>
-    ensures { MatchResult result (IsTextSource text.now) (λ why. MayLackText text.now) }
+    ensures { MatchResult result (IsTextSource (zone_offset text.now) text.now) (λ why. MayLackText text.now) }
 {
     if let Some(zone) = offset_zone(text) {
         return Ok(ZoneSource::Plain(zone));
     }
-    match TimeZone::posix(text) {
-        Ok(zone) => Ok(ZoneSource::Plain(zone)),
-        Err(_) if text.starts_with("./") => file_source(system, text),
-        Err(_) => named_source(system, text),
+    if text.is_empty() {
+        return Err(NoZone::Text(ZoneFault::NoName));
     }
+    named_source(system, text, true)
 }
 
-/// What the zone of a value of `TZ` is taken from, behind its colon, as the C library does it: UTC without a text, and else a
-/// POSIX rule, or a name.
-fn rest_source<S: Files + Env + AllocGlobal>(system: &S, rest: &str) -> Result<ZoneSource, NoZone>
-    ensures { MatchResult result (IsRestSource rest.now) (λ why. MayLackRest rest.now) }
+/// What the zone of the machine is taken from.
+fn machine_source<S: Files + Env + AllocGlobal>(system: &S) -> Result<ZoneSource, NoZone>
+    ensures { MatchResult result (IsSourceOf texts.Machine) (λ why. Unit {0}) }
 {
-    if rest.is_empty() {
-        return Ok(ZoneSource::Plain(TimeZone::UTC));
-    }
-    match TimeZone::posix(rest) {
-        Ok(zone) => Ok(ZoneSource::Plain(zone)),
-        Err(_) => named_source(system, rest),
-    }
+    named_source(system, MACHINE_ZONE, false)
 }
 
-/// What the zone of a name is taken from. UTC needs no file.
-fn named_source<S: Files + Env + AllocGlobal>(system: &S, name: &str) -> Result<ZoneSource, NoZone>
-    ensures { MatchResult result (IsNamedSource name.now) (λ why. is_utc name.now ≡ false) }
+/// What the zone of a value of `TZ` is taken from: its file, or else its text.
+fn named_source<S: Files + Env + AllocGlobal>(
+    system: &S,
+    tz: &str,
+    from_here: bool,
+) -> Result<ZoneSource, NoZone>
+    ensures { MatchResult result (IsNamedSource (file_of tz.now) tz.now) (λ why. IsName tz.now) }
 {
-    if name.eq_ignore_ascii_case("utc") {
-        return Ok(ZoneSource::Plain(TimeZone::UTC));
-    }
-    match read_named(system, name) {
-        Ok(table) => Ok(ZoneSource::Table(table)),
+    let Some(name) = zone_file(tz) else {
+        return Ok(rule_source(tz));
+    };
+    match read_named(system, name, from_here) {
+        Ok(bytes) => Ok(ZoneSource::Table(table_of(system.alloc(), bytes.as_slice())?)),
+        Err(why) if why.is_missing() => source_without_file(tz, why),
         Err(why) => Err(why),
     }
 }
 
-/// What the zone of a file is taken from.
-fn file_source<S: Files + AllocGlobal>(system: &S, path: &str) -> Result<ZoneSource, NoZone>
-    ensures { IfOk result IsFileSource }
+/// What the zone of a value of `TZ` is taken from that names no file.
+fn rule_source(tz: &str) -> ZoneSource
+    requires { file_of tz.now ≡ None }
+    ensures { IsSaidSource tz.now result }
 {
-    match read_table(system, path) {
-        Ok(table) => Ok(ZoneSource::Table(table)),
-        Err(why) => Err(why),
+    match zone_without_file(tz) {
+        Some(zone) => ZoneSource::Plain(zone),
+        None => unreachable!(),
     }
 }
 
-/// What the zone of the machine is taken from: `/etc/localtime`, and UTC where there is no such file.
-fn machine_source<S: Files + AllocGlobal>(system: &S) -> Result<ZoneSource, NoZone>
-    ensures { MatchResult result IsMachineSource (λ why. Unit {0}) }
+/// What the zone of a value of `TZ` is taken from whose file is missing.
+fn source_without_file(tz: &str, why: NoZone) -> Result<ZoneSource, NoZone>
+    ensures { MatchResult result (IsSaidSource tz.now) (λ why. Unit {0}) }
 {
-    match file_source(system, MACHINE_FILE) {
-        Err(NoZone::Text(ZoneFault::NoFile)) => Ok(ZoneSource::Plain(TimeZone::UTC)),
-        found => found,
+    match zone_without_file(tz) {
+        Some(zone) => Ok(ZoneSource::Plain(zone)),
+        None => Err(why),
     }
 }
-
-/// The file that says the zone of the machine.
-pub(crate) const MACHINE_FILE: &str = "/etc/localtime";

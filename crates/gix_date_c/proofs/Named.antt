@@ -4,7 +4,7 @@ use Rattle.std.proofs.Common.{◌∙◌, sym, subst, ap, inl, inr}
 use Rattle.jiff.specs.Types.{TimeZone}
 use Rattle.jiff.specs.Words.{plain_zone}
 use Rattle.git_date.specs.Exact.ZoneTexts.{zone_offset}
-use Rattle.gix_date_c.specs.Moments.{IsOffsetZone, IsRuleZone}
+use Rattle.gix_date_c.specs.Moments.{IsOffsetZone, IsTextZone}
 use Rattle.gix_date_c.specs.Zones.{IsCopy, IsCopyOf, IsHeld, IsHeldNamed, IsHeldZone, IsKept, IsNamed, IsRead, IsShown, IsTaken, IsZone, IsZoneOf, Names, Reads, Shows, is_file}
 use Rattle.gix_date_c.specs.Laws.{AreCopiesNamed, HasMomentsOf, HasPlacesOf}
 use Rattle.gix_date_c.specs.Values.Statuses.{number_of}
@@ -20,7 +20,7 @@ held-named : (file : Bool) (text : List ℕ) (offset : ℤ) (held : Held) → Is
     → IsZoneOf offset (Some held) z → IsHeldNamed file text z
 held-named true text offset (Rows read) is (Ok zone) at = (Ok read.value, is, (at.0, at.1, ap Ok at.2))
 held-named true text offset (Rule rule) is (Ok zone) at = absurd is
-held-named false text offset (Rule rule) is (Ok zone) at = subst (λ (zone : TimeZone). IsRuleZone text (Ok zone)) (sym at) is
+held-named false text offset (Rule rule) is (Ok zone) at = subst (λ (zone : TimeZone). IsTextZone text (Ok zone)) (sym at) is
 held-named false text offset (Rows read) is (Ok zone) at = absurd is
 held-named file text offset held is (Err status) at = absurd at
 

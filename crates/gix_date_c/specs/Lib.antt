@@ -1,4 +1,5 @@
 pub mod Careful
+pub mod Found
 pub mod Git
 pub mod Handles
 pub mod Idents

@@ -1,20 +1,18 @@
 -- Moments: instants in zones.
-use Rattle.std.specs.Prelude.{◌≡◌, ℕ, if◌then◌else◌, Bool, true, false, ◌&&◌, List, None, Result, Ok, Err, ℤ, pos, neg_ℤ, ◌+ℤ◌, MatchResult}
+use Rattle.std.specs.Prelude.{◌≡◌, ℕ, if◌then◌else◌, Bool, true, false, ◌&&◌, List, Option, Some, None, Result, Ok, Err, ℤ, pos, neg_ℤ, ◌+ℤ◌, MatchResult}
 use Rattle.std.specs.Int.Signed.{le_z}
 use Rattle.std.specs.Result.{result_map_both}
 use Rattle.std.specs.Str.{is_utf8}
 use Rattle.std.specs.Borrow.{Bor}
-use Rattle.jiff.specs.Placed.{IsPosixZone, fixed_zone}
+use Rattle.jiff.specs.Placed.{fixed_zone}
 use Rattle.jiff.specs.Types.{Offset, TimeZone, Tzif as Table}
 use Rattle.jiff.specs.Words.{nanos_of_seconds, offset_at as zone_offset_at, plain_zoned, zoned_nanos, IsOffsetSeconds}
 use Rattle.jiff.specs.declared.zoned.Zoned.{Zoned}
-use Rattle.jiff_core.specs.declared.error.Error.{Error as JiffError}
-use Rattle.jiff_core.specs.declared.error.Error.TheVariants.{OutOfMemory}
-use Rattle.jiff_tz.specs.Tzif.{tzif_view, IsParseFailure, IsRefused}
-use Rattle.jiff_tz.specs.TzifReader.{read_tzif}
-use Rattle.jiff_tz.specs.PosixReader.{read_whole}
 use Rattle.jiff_tz.specs.declared.tzif.Tzif.{Tzif}
 use Rattle.gix_date.specs.Fields.Zoned.{first_second, is_instant}
+use Rattle.git_date.specs.Exact.Places as places
+use Rattle.git_date.specs.declared.zones.tables.TableError.{TableError}
+use Rattle.git_date.specs.declared.zones.tables.TableError.TheVariants as tables
 use Rattle.gix_date_c.specs.declared.moment.CInstant.{CInstant}
 use Rattle.gix_date_c.specs.declared.values.status.Status.{Status}
 use Rattle.gix_date_c.specs.declared.values.status.Status.TheVariants as statuses
@@ -68,25 +66,33 @@ IsOffsetZone offset zone =
     MatchResult zone (λ z. (o : Offset) × (o.seconds ≡ offset) × (z ≡ fixed_zone o))
     (λ status. (status ≡ statuses.InvalidZone) × (IsOffsetSeconds offset → ⊥))
 
--- the zone of a POSIX rule that is text, or not
-abbrev pub IsTextZone : Bool → List ℕ → Result TimeZone Status → Type 0
-IsTextZone true rule zone = MatchResult zone (IsPosixZone rule) (λ status. (status ≡ statuses.InvalidZone) × (read_whole rule ≡ None))
-IsTextZone false rule zone = zone ≡ Err statuses.NotText
+-- what a text says of a zone, as C is told
+abbrev pub IsSaid : (Option TimeZone → Type 0) → Result TimeZone Status → Type 0
+IsSaid Says zone = MatchResult zone (λ z. Says (Some z)) (λ status. (status ≡ statuses.InvalidZone) × Says None)
 
--- the zone of a POSIX rule
-abbrev pub IsRuleZone : List ℕ → Result TimeZone Status → Type 0
-IsRuleZone rule = IsTextZone (is_utf8 rule) rule
+-- the same of bytes that are text, or not
+abbrev pub IsSaidByText : Bool → (Option TimeZone → Type 0) → Result TimeZone Status → Type 0
+IsSaidByText true Says zone = IsSaid Says zone
+IsSaidByText false Says zone = zone ≡ Err statuses.NotText
 
--- the status of a TZif file that is refused
-abbrev pub file_status : JiffError → Status
-file_status OutOfMemory = statuses.Memory
-file_status _ = statuses.InvalidZone
+-- the zone that a text means by itself
+abbrev pub IsTextZone : List ℕ → Result TimeZone Status → Type 0
+IsTextZone text zone = IsSaidByText (is_utf8 text) (places.IsTextZone text) zone
 
--- the table of a TZif file, or why `jiff` refuses it; memory runs out only for one that can be read
+-- the zone that a value of `TZ` means where no file says it
+abbrev pub IsZoneWithoutFile : List ℕ → Result TimeZone Status → Type 0
+IsZoneWithoutFile tz zone = IsSaidByText (is_utf8 tz) (places.IsZoneWithoutFile tz) zone
+
+-- the status of a file that says no zone
+abbrev pub table_status : TableError → Status
+table_status tables.OutOfMemory = statuses.Memory
+table_status tables.NotTzif = statuses.InvalidZone
+table_status tables.CountsLeapSeconds = statuses.ZoneCountsLeapSeconds
+
+-- the table of a file, or why there is none
 abbrev pub IsTable : List ℕ → Result Tzif Status → Type 0
-IsTable file (Ok read) = read_tzif file ≡ Ok (tzif_view read)
-IsTable file (Err status) =
-    (e : JiffError) × IsParseFailure e file × IsRefused {A = Tzif} (read_tzif file) (Err e) × (status ≡ file_status e)
+IsTable file (Ok table) = places.IsTable file (Ok table)
+IsTable file (Err status) = (why : TableError) × places.IsTable file (Err why) × (status ≡ table_status why)
 
 -- the zone by a table, where there is the table
 abbrev pub IsTableZone : Result Tzif Status → Result TimeZone Status → Type 0

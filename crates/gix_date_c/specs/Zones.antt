@@ -6,7 +6,7 @@ use Rattle.jiff.specs.Types.{TimeZone, Tzif as Table}
 use Rattle.jiff.specs.Words.{plain_zone}
 use Rattle.jiff_tz.specs.declared.tzif.Tzif.{Tzif}
 use Rattle.git_date.specs.Exact.ZoneTexts.{zone_offset}
-use Rattle.gix_date_c.specs.Moments.{IsFileZone, IsOffsetZone, IsPlaced, IsRuleZone, IsTable, Place, offset_at}
+use Rattle.gix_date_c.specs.Moments.{IsFileZone, IsOffsetZone, IsPlaced, IsTable, IsTextZone, Place, offset_at}
 use Rattle.gix_date_c.specs.Values.Statuses.{number_of}
 use Rattle.gix_date_c.specs.declared.moment.CInstant.{CInstant}
 use Rattle.gix_date_c.specs.declared.values.status.Status.{Status}
@@ -26,9 +26,9 @@ abbrev pub IsHeld : Bool → List ℕ → Result Held Status → Type 0
 IsHeld true file (Ok (Rows read)) = IsTable file (Ok read.value)
 IsHeld true file (Ok (Rule zone)) = ⊥
 IsHeld true file (Err status) = IsTable file (Err status) ⊎ (status ≡ statuses.Memory)
-IsHeld false rule (Ok (Rule zone)) = IsRuleZone rule (Ok (plain_zone zone))
+IsHeld false rule (Ok (Rule zone)) = IsTextZone rule (Ok (plain_zone zone))
 IsHeld false rule (Ok (Rows read)) = ⊥
-IsHeld false rule (Err status) = IsRuleZone rule (Err status)
+IsHeld false rule (Err status) = IsTextZone rule (Err status)
 
 -- the zone that is held
 abbrev pub IsHeldZone : Held → TimeZone → Type 0
@@ -102,7 +102,7 @@ IsKept None text (Err status) = IsRead text (Err status)
 -- the zone of a file, or else of a rule
 abbrev pub IsHeldNamed : Bool → List ℕ → Result TimeZone Status → Type 0
 IsHeldNamed true file zone = IsFileZone file zone
-IsHeldNamed false rule zone = IsRuleZone rule zone
+IsHeldNamed false rule zone = IsTextZone rule zone
 
 -- the zone that a text names: that of an offset, or else of a file, or else of a rule
 abbrev pub IsNamed : Option ℤ → List ℕ → Result TimeZone Status → Type 0

@@ -2,10 +2,11 @@
 ghost use Rattle.std.specs.Prelude.{◌≡◌, Ok};
 ghost use Rattle.std.specs.Result.{result_map_both};
 ghost use Rattle.jiff.specs.Words.{plain_zone};
-ghost use Rattle.gix_date_c.specs.Moments.{IsOffsetZone, IsRuleZone, IsTable, file_status, nanos_of, place_of, placed};
+ghost use Rattle.gix_date_c.specs.Moments.{IsOffsetZone, IsTable, IsTextZone, nanos_of, place_of, placed, table_status};
 
 use crate::values::status::Status;
 use crate::values::text::utf8_text;
+use git_date::{TableError, zone_of_text, zone_table};
 use gix_date::Zoned;
 use jiff::Timestamp;
 use jiff::tz::{Offset, TimeZone, Tzif};
@@ -58,13 +59,13 @@ pub(crate) fn offset_zone(offset: i32) -> Result<TimeZone<'static>, Status>
     }
 }
 
-/// The zone of a POSIX rule.
-pub(crate) fn rule_zone(rule: &[u8]) -> Result<TimeZone<'static>, Status>
-    ensures { IsRuleZone rule.now (result_map_both plain_zone (λ status. status) result) }
+/// The zone that a text means by itself: that of a POSIX rule, or UTC by its name.
+pub(crate) fn text_zone(text: &[u8]) -> Result<TimeZone<'static>, Status>
+    ensures { IsTextZone text.now (result_map_both plain_zone (λ status. status) result) }
 {
-    match TimeZone::posix(utf8_text(rule)?) {
-        Ok(zone) => Ok(zone),
-        Err(_) => Err(Status::InvalidZone),
+    match zone_of_text(utf8_text(text)?) {
+        Some(zone) => Ok(zone),
+        None => Err(Status::InvalidZone),
     }
 }
 
@@ -73,15 +74,16 @@ pub(crate) fn rule_zone(rule: &[u8]) -> Result<TimeZone<'static>, Status>
 pub(crate) fn table_of(alloc: Global, file: &[u8]) -> Result<Tzif, Status>
     ensures { IsTable file.now result }
 {
-    Tzif::parse(alloc, None, file).map_err(file_status)
+    zone_table(alloc, file).map_err(table_status)
 }
 
-/// The status of a TZif file that is refused.
-fn file_status(error: jiff::Error) -> Status
-    ensures { result ≡ file_status error }
+/// The status of a file that says no zone.
+fn table_status(error: TableError) -> Status
+    ensures { result ≡ table_status error }
 {
     match error {
-        jiff::Error::OutOfMemory => Status::Memory,
-        _ => Status::InvalidZone,
+        TableError::OutOfMemory => Status::Memory,
+        TableError::NotTzif => Status::InvalidZone,
+        TableError::CountsLeapSeconds => Status::ZoneCountsLeapSeconds,
     }
 }

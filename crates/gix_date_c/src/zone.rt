@@ -5,6 +5,7 @@ ghost use Rattle.git_date.specs.Exact.ZoneTexts.{zone_offset};
 ghost use Rattle.gix_date_c.specs.Zones.{Copies, IsKept, IsRead, IsTaken, IsUtc, Reads};
 ghost use Rattle.gix_date_c.specs.declared.values.status.Status.TheVariants.{Memory};
 
+mod found;
 mod handle;
 mod held;
 mod lent;

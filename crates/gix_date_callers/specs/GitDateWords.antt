@@ -11,6 +11,7 @@ pub use Rattle.git_date.specs.Show.Ages.{age_answer}
 pub use Rattle.git_date.specs.Show.Clocks.{moment_at, moment_of}
 pub use Rattle.git_date.specs.Tokens.Tokens.{tokens, texts}
 pub use Rattle.git_date.specs.Exact.ZoneTexts.{IsNear, zone_offset}
+pub use Rattle.git_date.specs.Exact.Places.{IsTable, IsTextZone, IsZoneWithoutFile, file_of, folder_of}
 pub use Rattle.git_date.specs.Exact.Decimals.{decimal_of_offset, offset_of_decimal}
 pub use Rattle.git_date.specs.Formats.Format.{format_bytes, shown_by_format, WritesShown, RefusesText}
 pub use Rattle.git_date.specs.Formats.Pieces.{checked}

@@ -42,6 +42,7 @@ from .errors import Pattern as Pattern
 from .errors import Range as Range
 from .errors import Unclear as Unclear
 from .errors import UnknownFormat as UnknownFormat
+from .errors import ZoneCountsLeapSeconds as ZoneCountsLeapSeconds
 from .lines import Refused, parse_headers_into, parse_lines, parse_lines_into, parse_signatures_into
 from .moments import Moment, now
 from .options import Format, RawOffsets, Texts, WithoutOffset

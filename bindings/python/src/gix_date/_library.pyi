@@ -42,7 +42,7 @@ class Time:
 class Zone:
     """A zone that was read: of a POSIX rule as a str, or of a TZif file as bytes. Calls refuse one that cannot be read."""
 
-    is_read: bool
+    status: int
     def __new__(cls, zone: _Text, /) -> Zone: ...
 
 def parse_header(text: _Text) -> Time: ...
@@ -84,6 +84,8 @@ def add_lines(
     now: Optional[Moment],
     raw_offsets: Optional[RawOffsets],
 ) -> int: ...
+def zone_path(tz: bytes, tzdir: bytes, /) -> bytes: ...
+def zone_file(path: bytes, /) -> Optional[bytes]: ...
 def connect(
     *,
     moment: Type[Moment],

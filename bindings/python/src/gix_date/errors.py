@@ -83,6 +83,12 @@ class InvalidZone(GixDateError):
     status = 10
 
 
+class ZoneCountsLeapSeconds(InvalidZone):
+    """The file of the zone counts leap seconds, as those in /usr/share/zoneinfo/right. No time of Git does."""
+
+    status = 32
+
+
 class Conversion(GixDateError):
     """The seconds are outside -377705023201 to 253402207200, or the offset is beyond 25:59:59."""
 
@@ -182,7 +188,7 @@ def named(*classes: Type[GixDateError]) -> Dict[int, Type[GixDateError]]:
 REFUSALS = named(
     NotText, InvalidTime, UnknownFormat, DateConversion, MissingNow, Range, InvalidInstant, InvalidZone, Conversion,
     OffsetTooWide, Pattern, NoSignature, BadPart, Unclear, AfterYear9999,
-    NoIdentity, NulInPart, EmptyName, OnlyCrud, BeforeEpoch,
+    NoIdentity, NulInPart, EmptyName, OnlyCrud, BeforeEpoch, ZoneCountsLeapSeconds,
 )  # fmt: skip
 
 
@@ -190,5 +196,5 @@ __all__ = [
     "GixDateError", "NotText", "InvalidTime", "UnknownFormat", "DateConversion", "MissingNow", "Range",
     "InvalidInstant", "InvalidZone", "Conversion", "OffsetTooWide", "Pattern", "NoSignature", "BadPart", "Unclear",
     "AfterYear9999", "NoIdentity", "NulInPart", "EmptyName", "OnlyCrud", "BeforeEpoch", "NoDirective", "NaiveDatetime",
-    "BeyondDatetime",
+    "BeyondDatetime", "ZoneCountsLeapSeconds",
 ]  # fmt: skip

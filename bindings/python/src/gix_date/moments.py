@@ -3,27 +3,22 @@
 from __future__ import annotations
 
 import os
-import stat
 import time
 import zoneinfo
 from datetime import datetime, tzinfo
 from functools import lru_cache
 from importlib import resources
-from pathlib import Path
 from typing import NamedTuple, Optional, Sequence, Tuple, Union
 
 from . import _library
 from ._library import parts_of
-from .errors import InvalidZone
+from .errors import REFUSALS, InvalidZone
 
 Zone = Union[int, str, bytes]
 Parts = Tuple[int, int, Zone]
 
-MAX_FILE_BYTES = 1 << 20
-"""The most bytes of a file that is read as a zone, as in the library's programs."""
-
-LOCAL_FILE = Path("/etc/localtime")
-"""The file of the machine's zone."""
+MACHINE_ZONE = b"/etc/localtime"
+"""What `TZ` means where it is not set. Where there is no such file, it is UTC."""
 
 
 class ZoneFile(bytes):
@@ -45,8 +40,8 @@ class Moment(NamedTuple):
 
     - seconds: since 1970-01-01 00:00:00 UTC
     - nanoseconds: added to them, from -999999999 to 999999999
-    - zone: an offset in seconds east of UTC, a POSIX rule such as `EST5EDT,M3.2.0,M11.1.0`, the bytes of a TZif file, or the key of
-      one that `zoneinfo` finds, such as `Europe/Berlin`
+    - zone: an offset in seconds east of UTC, `UTC`, a POSIX rule such as `EST5EDT,M3.2.0,M11.1.0`, the bytes of a TZif file, or the
+      key of one that `zoneinfo` finds, such as `Europe/Berlin`
 
     Calls refuse by `InvalidInstant` and `InvalidZone` what they cannot compute with.
     """
@@ -85,19 +80,18 @@ def parts_in_zone(at: datetime) -> Parts:
     if not isinstance(at, datetime):
         raise TypeError(f"a moment has to be an aware datetime or a Moment, not {type(at).__name__}")
     seconds, microseconds, offset = parts_of(at)
-    file = file_of(at.tzinfo)
-    return seconds, microseconds * 1000, offset if file is None else file
+    return seconds, microseconds * 1000, file_of(at.tzinfo) or offset
 
 
 @lru_cache(maxsize=64)
-def zone_file(zone: zoneinfo.ZoneInfo) -> Optional[ZoneFile]:
-    """The bytes of a zone's file, kept with the zone, which keeps its own data too; None if it has none."""
-    return None if zone.key is None else tzif_of(zone.key, zoneinfo.TZPATH)
+def zone_file(zone: zoneinfo.ZoneInfo) -> bytes:
+    """The bytes of a zone's file, kept with the zone, which keeps its own data too; none if it has no file."""
+    return b"" if zone.key is None else tzif_of(zone.key, zoneinfo.TZPATH)
 
 
-def file_of(zone: Optional[tzinfo]) -> Optional[ZoneFile]:
-    """The bytes of a zone's file; None if it has none."""
-    return zone_file(zone) if isinstance(zone, zoneinfo.ZoneInfo) else None
+def file_of(zone: Optional[tzinfo]) -> bytes:
+    """The bytes of a zone's file; none if it has no file."""
+    return zone_file(zone) if isinstance(zone, zoneinfo.ZoneInfo) else b""
 
 
 def is_inside(key: str) -> bool:
@@ -106,18 +100,18 @@ def is_inside(key: str) -> bool:
 
 
 @lru_cache(maxsize=64)
-def tzif_of(key: str, folders: Sequence[str]) -> Optional[ZoneFile]:
-    """The bytes of a zone's TZif file in the folders, or in the package tzdata; None if there is none."""
+def tzif_of(key: str, folders: Sequence[str]) -> bytes:
+    """The bytes of a zone's TZif file in the folders, or in the package tzdata; none if no such file may be read."""
     if not is_inside(key):
-        return None
-    for path in (Path(folder, key) for folder in folders):
-        if is_file(path):
-            return file_at(path, key)
+        return b""
+    for path in (os.path.join(folder, key) for folder in folders):
+        if os.path.isfile(path):
+            return ZoneFile(_library.zone_file(os.fsencode(path)) or b"", key)
     *packages, name = key.split("/")
     try:
         return ZoneFile(resources.files(".".join(["tzdata.zoneinfo", *packages])).joinpath(name).read_bytes(), key)
     except (ImportError, OSError, UnicodeError):
-        return None
+        return b""
 
 
 @lru_cache(maxsize=64)
@@ -127,76 +121,43 @@ def read_zone(zone: Union[str, bytes]) -> _library.Zone:
 
 
 def named_zone(key: str) -> _library.Zone:
-    """The zone of a file by its key; for a key without one, which is no rule either, a zone that calls refuse."""
-    file = tzif_of(key, zoneinfo.TZPATH)
-    return read_zone(key if file is None else file)
+    """The zone of a file by its key, or else of a rule; for any other str a zone that calls refuse."""
+    return read_zone(tzif_of(key, zoneinfo.TZPATH) or key)
 
 
-def may_be_read(file: os.stat_result) -> bool:
-    """Whether a file may be read as a zone.
-
-    A pipe or a device might never end, and neither might a file of the kernel, which says that it has no byte.
-    """
-    return stat.S_ISREG(file.st_mode) and 1 <= file.st_size <= MAX_FILE_BYTES
-
-
-def without_waiting(path: str, flags: int) -> int:
-    """Opens a file; where that is a pipe it waits for no writer."""
-    return os.open(path, flags | os.O_NONBLOCK)
-
-
-def is_file(path: Path) -> bool:
-    """Whether there is such a file. The path may be too long, and lead through what must not be looked at."""
+def state_of(path: bytes) -> Tuple[int, ...]:
+    """What differs when a file is another one; nothing if there is none."""
     try:
-        return path.is_file()
+        file = os.stat(path)
     except OSError:
-        return False
+        return ()
+    return file.st_dev, file.st_ino, file.st_size, file.st_mtime_ns
 
 
-def file_at(path: Path, name: str) -> Optional[ZoneFile]:
-    """The bytes of a file, with a name; None if there is none that may be read as a zone."""
-    try:
-        # to open a device may already change it
-        if not path.is_file() or not may_be_read(path.stat()):
-            return None
-        with open(path, "rb", opener=without_waiting) as file:
-            # the path may mean another file by now, and a file may grow
-            data = file.read(MAX_FILE_BYTES + 1) if may_be_read(os.fstat(file.fileno())) else b""
-    except OSError:
-        return None
-    return ZoneFile(data, name) if 1 <= len(data) <= MAX_FILE_BYTES else None
-
-
-def machine_zone() -> Optional[Zone]:
-    """The zone of `/etc/localtime`, UTC if that is not there; None if it cannot be read."""
-    try:
-        os.stat(LOCAL_FILE)
-    except FileNotFoundError:
+@lru_cache(maxsize=64)
+def zone_found(tz: bytes, path: bytes, _state: Tuple[int, ...]) -> Zone:
+    """The zone that a `TZ` means: that of the file at a path, or else of its text. It is kept for a state of the file."""
+    name = tz.removeprefix(b":")
+    data = _library.zone_file(path)
+    if data is None:
+        raise InvalidZone(tz)
+    if not data and name in (b"", MACHINE_ZONE):
         return 0
-    except OSError:
-        return None
-    return file_at(LOCAL_FILE, str(LOCAL_FILE))
-
-
-def zone_of(name: str) -> Zone:
-    """The zone that a `TZ` names: by its file; what names none has to be a rule."""
-    name = name[1:] if name.startswith(":") else name
-    if not name:
-        return 0
-    file = file_at(Path(name), name) if os.path.isabs(name) else tzif_of(name, zoneinfo.TZPATH)
-    return name if file is None else file
+    zone: Union[str, bytes] = ZoneFile(data, os.fsdecode(name)) if data else os.fsdecode(name)
+    status = read_zone(zone).status
+    if status:
+        raise REFUSALS[status](tz)
+    return zone
 
 
 def now() -> Moment:
-    """The moment now in the machine's zone: that of `TZ`, or of `/etc/localtime` if it is not set.
+    """The moment now in the machine's zone, which the C library finds by `TZ` and `TZDIR`, or in `/etc/localtime`.
 
-    It is UTC if `TZ` is empty, or neither is there. Refuses by `InvalidZone` a `TZ` that names no zone, and a file that cannot be
-    read, is a pipe, a device or empty, or has more than 1048576 bytes.
+    Refuses by `InvalidZone` what the C library takes for UTC in silence, and by `ZoneCountsLeapSeconds` a file that counts them. The zone
+    is kept while `TZ` and `TZDIR` stay as they are, and the device, inode, length and time of change of its file. Else it is found anew.
     Only this call reads the clock, the environment and the machine's zone.
     """
     seconds, nanoseconds = divmod(time.time_ns(), 1_000_000_000)
-    name = os.environ.get("TZ")
-    zone = machine_zone() if name is None else zone_of(name)
-    if zone is None or not isinstance(zone, int) and not read_zone(zone).is_read:
-        raise InvalidZone(name)
-    return Moment(seconds, nanoseconds, zone)
+    tz, tzdir = os.environb.get(b"TZ", MACHINE_ZONE), os.environb.get(b"TZDIR", b"")
+    path = _library.zone_path(tz, tzdir)
+    return Moment(seconds, nanoseconds, zone_found(tz, path, state_of(path)))

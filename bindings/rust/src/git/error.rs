@@ -19,8 +19,8 @@ pub enum DateError {
     /// The date is before 1970-01-01 00:00:00 UTC, or leads to an instant that cannot be computed with. Of
     /// [`show_date()`](super::show_date): Git cannot show the time, or it is beyond what is shown here.
     Range,
-    /// The moment is refused ([`Error::InvalidInstant`], [`Error::InvalidZone`]), or memory for its zone
-    /// ([`Error::OutOfMemory`]). Of [`show_by_format()`](super::show_by_format) also memory for the text.
+    /// The moment is refused ([`Error::InvalidInstant`], [`Error::InvalidZone`], [`Error::ZoneCountsLeapSeconds`]), or memory for its
+    /// zone ([`Error::OutOfMemory`]). Of [`show_by_format()`](super::show_by_format) also memory for the text.
     Refused(Error),
 }
 
@@ -68,8 +68,8 @@ pub enum OwnDateError {
     BeforeEpoch,
     /// The offset is more than 35791394 minutes, whose seconds 32 bits do not hold.
     OffsetTooWide,
-    /// The moment is refused ([`Error::InvalidInstant`], [`Error::InvalidZone`]), or memory for its zone
-    /// ([`Error::OutOfMemory`]).
+    /// The moment is refused ([`Error::InvalidInstant`], [`Error::InvalidZone`], [`Error::ZoneCountsLeapSeconds`]), or memory for its
+    /// zone ([`Error::OutOfMemory`]).
     Refused(Error),
 }
 

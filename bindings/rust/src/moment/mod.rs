@@ -1,9 +1,11 @@
 //! The moment that relative dates count from.
 
+mod found_zone;
 mod instant;
 mod read_zone;
 mod zone;
 
+pub use found_zone::FoundZone;
 pub use instant::Instant;
 pub use read_zone::ReadZone;
 pub use zone::Zone;
@@ -59,7 +61,8 @@ impl Moment {
     /// The time of this moment, without the part of a second: half a second before 1970 is 0. Its offset is that of the zone
     /// then.
     ///
-    /// [`Error::InvalidInstant`], [`Error::InvalidZone`], and in a zone by a rule or a file [`Error::OutOfMemory`].
+    /// [`Error::InvalidInstant`], [`Error::InvalidZone`], [`Error::ZoneCountsLeapSeconds`], and in a zone that is no offset
+    /// [`Error::OutOfMemory`].
     pub fn to_time(&self) -> Result<Time, Error> {
         self.zone.read()?.parse("now", self.instant())
     }

@@ -12,7 +12,7 @@ use std::fmt;
 
 /// A zone that the library has read once, for any number of calls. [`Zone::read()`](crate::Zone::read) makes it.
 ///
-/// A call with a [`Moment`](crate::Moment) reads the moment's zone each time, and reading a file takes longer than the call
+/// A call with a [`Moment`](crate::Moment) reads a rule or a file each time, and reading a file takes longer than the call
 /// itself. So a program that has many dates reads their zone once.
 ///
 /// ```

@@ -27,7 +27,8 @@ pub enum RawOffsets {
 /// ```
 ///
 /// [`Error::UnknownFormat`], [`Error::DateConversion`]; of a relative date [`Error::MissingNow`] and [`Error::Range`]; of the
-/// moment [`Error::InvalidInstant`], [`Error::InvalidZone`] and, in a zone by a rule or a file, [`Error::OutOfMemory`].
+/// moment [`Error::InvalidInstant`], [`Error::InvalidZone`], [`Error::ZoneCountsLeapSeconds`] and, in a zone that is no offset,
+/// [`Error::OutOfMemory`].
 pub fn parse(input: &str, now: Option<Moment>) -> Result<Time, Error> {
     bytes::parse(input.as_bytes(), now)
 }

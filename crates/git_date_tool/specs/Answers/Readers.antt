@@ -7,7 +7,6 @@ use Rattle.gix_date.specs.Careful.Outcome.{careful_reading, CarefulOutcome}
 use Rattle.gix_date.specs.Families.Order.{first_family, ParseNoAllocOutcome}
 use Rattle.gix_date.specs.Header.Canonical.{is_canonical_header}
 use Rattle.gix_date.specs.Header.Reading.{header_time}
-use Rattle.gix_date.specs.Relative.Steps.{zone_of}
 use Rattle.gix_date.specs.declared.error.CarefulError.{CarefulError}
 use Rattle.gix_date.specs.declared.error.ParseError.{ParseError}
 use Rattle.gix_date.specs.declared.parsing.careful.CarefulOptions.{CarefulOptions}
@@ -16,9 +15,7 @@ use Rattle.gix_date.specs.declared.parsing.careful.WithoutOffset.TheVariants.{Mo
 use Rattle.gix_date.specs.declared.parsing.raw.RawOffsets.TheVariants.{Quarter}
 use Rattle.gix_date.specs.declared.time.Time.{Time}
 use Rattle.git_date.specs.Approximate.Reading.{ApproximateOutcome}
-use Rattle.git_date.specs.Rules.Dates.{now_of}
 use Rattle.git_date.specs.Exact.Outcome.{DateOutcome, IsPlaceIn}
-use Rattle.git_date.specs.Exact.Reading.{said_by}
 use Rattle.git_date.specs.declared.approximate.answer.Approximate.{Approximate}
 use Rattle.git_date.specs.declared.date.ReadDate.{ReadDate}
 use Rattle.git_date.specs.declared.error.DateError.{DateError}

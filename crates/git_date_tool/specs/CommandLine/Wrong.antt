@@ -13,7 +13,7 @@ use Rattle.git_date_tool.specs.declared.program.wrong.WrongWords.{WrongWords}
 use Rattle.git_date_tool.specs.declared.program.wrong.WrongWords.TheVariants.{UnknownOption, NoValue, Twice, TwoDemands, UnknownReader, UnknownMode, WrongFormat, LateOption, NotText, NoMoment, NoZone}
 use Rattle.git_date_tool.specs.declared.zones.files.ZoneFault.{ZoneFault}
 use Rattle.git_date_tool.specs.declared.zones.files.ZoneFault.TheVariants as faults
-use Rattle.git_date_tool.specs.declared.zones.TheConstants.{MACHINE_FILE}
+use Rattle.git_date.specs.declared.zones.places.TheConstants.{MACHINE_ZONE}
 use Rattle.git_date_tool.specs.declared.zones.ZoneText.{ZoneText}
 use Rattle.git_date_tool.specs.declared.zones.ZoneText.TheVariants as texts
 
@@ -43,7 +43,7 @@ zone_subject (texts.Zone text) = Some text.now
 zone_subject (texts.Tz text) = Some text.now
 zone_subject texts.TzNotText = None
 zone_subject texts.TzNoMemory = None
-zone_subject texts.Machine = Some MACHINE_FILE.now
+zone_subject texts.Machine = Some MACHINE_ZONE.now
 
 -- the word that is wrong, where it is one
 abbrev pub wrong_subject : WrongWords → Option (List ℕ)
@@ -114,9 +114,8 @@ zone_lead texts.Machine = codes "is no zone: "
 -- why it says no zone
 abbrev pub zone_fault_text : ZoneFault → List ℕ
 zone_fault_text faults.NotText = codes "it is not UTF-8"
-zone_fault_text faults.NoName = codes "there is none of this name, and a rule has the dates of both its changes; expected one such as EST5EDT,M3.2.0,M11.1.0 or Europe/Berlin, and for --zone also an offset to 25:59, as +0800"
-zone_fault_text faults.NoFolder = codes "for names a time zone database is missing; expected one such as EST5EDT,M3.2.0,M11.1.0, and for --zone also +0800"
-zone_fault_text faults.LeadsOut = codes "a name is not empty and has no ..; the path of a file begins with /, or for --zone also with ./"
+zone_fault_text faults.NoName = codes "there is none of this name; expected one such as Europe/Berlin, or a rule such as EST5EDT,M3.2.0,M11.1.0, and for --zone also an offset to 25:59, as +0800"
+zone_fault_text faults.NoFolder = codes "for names a time zone database is missing; expected a rule such as EST5EDT,M3.2.0,M11.1.0, and for --zone also +0800"
 zone_fault_text faults.CountsLeapSeconds = codes "its file counts leap seconds, as no time of Git does"
 zone_fault_text faults.NoFile = codes "there is no such file"
 zone_fault_text faults.Denied = codes "its file may not be read"

@@ -3,9 +3,9 @@ ghost use Rattle.std.specs.Prelude.{◌≡◌, ◌++◌};
 ghost use Rattle.git_date_tool.specs.CommandLine.Wrong.{format_fault_place, format_fault_text, place_digits, subject_of, wrong_lead, wrong_place, wrong_subject, wrong_text, zone_fault_text, zone_lead, zone_subject};
 
 use crate::program::arguments::Given;
+use crate::zones::ZoneText;
 use crate::zones::files::ZoneFault;
-use crate::zones::{MACHINE_FILE, ZoneText};
-use git_date::FormatFault;
+use git_date::{FormatFault, MACHINE_ZONE};
 use gix_date_tool::NoMoment;
 
 /// What is wrong with the words of a command line.
@@ -145,7 +145,7 @@ impl<'w> ZoneText<'w> {
             ZoneText::Tz(text) => Some(text),
             ZoneText::TzNotText => None,
             ZoneText::TzNoMemory => None,
-            ZoneText::Machine => Some(MACHINE_FILE),
+            ZoneText::Machine => Some(MACHINE_ZONE),
         }
     }
 
@@ -171,15 +171,12 @@ impl ZoneFault {
         match self {
             ZoneFault::NotText => "it is not UTF-8",
             ZoneFault::NoName => {
-                "there is none of this name, and a rule has the dates of both its changes; expected one \
-                 such as EST5EDT,M3.2.0,M11.1.0 or Europe/Berlin, and for --zone also an offset to 25:59, as +0800"
+                "there is none of this name; expected one such as Europe/Berlin, or a rule such as \
+                 EST5EDT,M3.2.0,M11.1.0, and for --zone also an offset to 25:59, as +0800"
             }
             ZoneFault::NoFolder => {
-                "for names a time zone database is missing; expected one such as \
-                 EST5EDT,M3.2.0,M11.1.0, and for --zone also +0800"
-            }
-            ZoneFault::LeadsOut => {
-                "a name is not empty and has no ..; the path of a file begins with /, or for --zone also with ./"
+                "for names a time zone database is missing; expected a rule such as EST5EDT,M3.2.0,M11.1.0, \
+                 and for --zone also +0800"
             }
             ZoneFault::CountsLeapSeconds => "its file counts leap seconds, as no time of Git does",
             ZoneFault::NoFile => "there is no such file",

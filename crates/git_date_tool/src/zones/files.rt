@@ -1,28 +1,20 @@
 //! The files of zones.
-ghost use Rattle.std.specs.Prelude.{◌≡◌, ◌+◌, ◌<◌, ◌≤◌, ◌^◌, IfOk, length};
+ghost use Rattle.std.specs.Prelude.{◌≡◌, ◌≤◌, IfOk, length};
 ghost use Rattle.git_date_tool.specs.Zones.Files.{no_zone_of};
 ghost use Rattle.git_date_tool.specs.Zones.Zones.{IsOfFile};
+ghost use Rattle.git_date_tool.specs.declared.zones.files.TheConstants.{MAX_FILE_BYTES};
 
-use jiff::Error;
+use git_date::{TableError, zone_folder, zone_table};
 use jiff::tz::Tzif;
 use std::alloc::{AllocError, Global};
 use std::env::VarError;
+use std::fs::{Metadata, OpenFile};
 use std::io::{ErrorKind, Read};
 use std::rt::{Env, Files};
 use std::{env, fs, io};
 
 /// The most bytes of a file that is read as a zone, as in `jiff`.
 const MAX_FILE_BYTES: u64 = 1 << 20;
-
-/// How many bytes the header of TZif data has.
-const HEADER_LEN: usize = 44;
-
-/// Where systems keep their zones, unless `TZDIR` says so.
-const FOLDERS: [&str; 3] = [
-    "/usr/share/zoneinfo",
-    "/usr/share/lib/zoneinfo",
-    "/etc/zoneinfo",
-];
 
 /// Why there is no zone.
 #[derive(Clone, Copy)]
@@ -35,6 +27,16 @@ pub(crate) enum NoZone {
     Text(ZoneFault),
 }
 
+impl NoZone {
+    /// Whether there is no file of a name or a path.
+    pub(crate) fn is_missing(self) -> bool {
+        matches!(
+            self,
+            NoZone::Text(ZoneFault::NoName | ZoneFault::NoFolder | ZoneFault::NoFile)
+        )
+    }
+}
+
 /// Why a text says no zone.
 #[derive(Clone, Copy)]
 pub(crate) enum ZoneFault {
@@ -44,8 +46,6 @@ pub(crate) enum ZoneFault {
     NoName,
     /// It is a name, and the system has no folder of zones.
     NoFolder,
-    /// It is a name that leads out of the folder.
-    LeadsOut,
     /// It is the path of no file.
     NoFile,
     /// Its file may not be read.
@@ -60,64 +60,41 @@ pub(crate) enum ZoneFault {
     CountsLeapSeconds,
 }
 
-/// The table of a name. A path from the root is that of the file itself. Any other name is that of a file of the time zone database.
+/// The bytes of the file of a name. A path from the root is that of the file itself, and so is one from the current folder if that is
+/// asked. Any other name is that of a file below the folder that `TZDIR` says, or else below the system's.
 pub(crate) fn read_named<S: Files + Env + AllocGlobal>(
     system: &S,
     name: &str,
-) -> Result<Tzif, NoZone>
-    ensures { IfOk result IsOfFile }
+    from_here: bool,
+) -> Result<Vec<u8>, NoZone>
+    ensures { IfOk result (λ bytes. length bytes.items ≤ MAX_FILE_BYTES) }
 {
-    if name.starts_with('/') {
-        return read_table(system, name);
+    if name.starts_with('/') || (from_here && name.starts_with("./")) {
+        return read_file(system, name);
     }
-    if name.is_empty() || name.split('/').any(|part| part == "..") {
-        return Err(NoZone::Text(ZoneFault::LeadsOut));
-    }
-    read_listed(system, name)
-}
-
-/// The table of the file of a name below the folder that `TZDIR` says, or else below those of the system.
-fn read_listed<S: Files + Env + AllocGlobal>(system: &S, name: &str) -> Result<Tzif, NoZone>
-    ensures { IfOk result IsOfFile }
-{
     match env::var(system, "TZDIR") {
-        Ok(folder) if !folder.is_empty() => read_below(system, &[folder.as_str()], name),
-        Ok(_) => read_below(system, &FOLDERS, name),
-        Err(VarError::NotPresent) => read_below(system, &FOLDERS, name),
+        Ok(folder) => read_below(system, zone_folder(name, folder.as_str()), name),
+        Err(VarError::NotPresent) => read_below(system, zone_folder(name, ""), name),
         Err(VarError::NotUnicode) => Err(NoZone::Text(ZoneFault::NoFolder)),
         Err(VarError::OutOfMemory) => Err(NoZone::Memory),
     }
 }
 
-/// The table of the first file of this name below one of the folders.
+/// The bytes of the file of this name below a folder.
 fn read_below<S: Files + AllocGlobal>(
     system: &S,
-    folders: &[&str],
+    folder: &str,
     name: &str,
-) -> Result<Tzif, NoZone>
-    ensures { IfOk result IsOfFile }
-{
-    let mut why = ZoneFault::NoFolder;
-    for folder in folders {
-        match read_in(system, folder, name) {
-            Err(NoZone::Text(ZoneFault::NoFile)) => {}
-            found => return found,
-        }
-        if is_folder(system, folder) {
-            why = ZoneFault::NoName;
-        }
-    }
-    Err(NoZone::Text(why))
-}
-
-/// The table of the file of this name in a folder.
-fn read_in<S: Files + AllocGlobal>(system: &S, folder: &str, name: &str) -> Result<Tzif, NoZone>
-    ensures { IfOk result IsOfFile }
+) -> Result<Vec<u8>, NoZone>
+    ensures { IfOk result (λ bytes. length bytes.items ≤ MAX_FILE_BYTES) }
 {
     let path = path_of(system.alloc(), folder, name)
         .ok()
         .ok_or(NoZone::Memory)?;
-    read_table(system, path.as_str())
+    match read_file(system, path.as_str()) {
+        Err(NoZone::Text(ZoneFault::NoFile)) => Err(NoZone::Text(missing(system, folder))),
+        found => found,
+    }
 }
 
 /// The path of a name in a folder.
@@ -128,94 +105,70 @@ fn path_of(alloc: Global, folder: &str, name: &str) -> Result<String, AllocError
     Ok(path)
 }
 
-/// Whether there is such a folder.
-fn is_folder<S: Files>(system: &S, path: &str) -> bool {
-    match fs::metadata(system, path) {
-        Ok(file) => file.is_dir(),
-        Err(_) => false,
+/// What is missing where a folder has no file of a name.
+fn missing<S: Files>(system: &S, folder: &str) -> ZoneFault {
+    match fs::metadata(system, folder) {
+        Ok(found) if found.is_dir() => ZoneFault::NoName,
+        _ => ZoneFault::NoFolder,
     }
 }
 
-/// The table of a regular file of 1 MiB at most. A pipe or a device might never end, and neither might a file of the kernel, which
-/// says that it has no byte.
-pub(crate) fn read_table<S: Files + AllocGlobal>(system: &S, path: &str) -> Result<Tzif, NoZone>
-    ensures { IfOk result IsOfFile }
+/// The bytes of a regular file of 1 MiB at most. By the second look the path may mean another file.
+fn read_file<S: Files + AllocGlobal>(system: &S, path: &str) -> Result<Vec<u8>, NoZone>
+    ensures { IfOk result (λ bytes. length bytes.items ≤ MAX_FILE_BYTES) }
 {
-    match fs::metadata(system, path) {
-        Ok(file) if !file.is_file() => Err(NoZone::Text(ZoneFault::NotRegular)),
-        Ok(file) if file.len() == 0 => Err(NoZone::Text(ZoneFault::NotTzif)),
-        Ok(file) if file.len() > MAX_FILE_BYTES => Err(NoZone::Text(ZoneFault::TooLarge)),
-        Ok(_) => parse_file(system, path),
-        Err(error) => Err(no_zone_of(error.kind())),
-    }
+    may_be_zone(fs::metadata(system, path).map_err(no_zone)?)?;
+    let file = fs::open(system, path).map_err(no_zone)?;
+    may_be_zone(file.metadata().map_err(no_zone)?)?;
+    read_open(system.alloc(), file)
 }
 
-/// The table of a file that is not too large.
-fn parse_file<S: Files + AllocGlobal>(system: &S, path: &str) -> Result<Tzif, NoZone>
-    ensures { IfOk result IsOfFile }
-{
-    let bytes = match read_file(system, path) {
-        Ok(bytes) => bytes,
-        Err(error) => return Err(no_zone_of(error.kind())),
+/// Whether a file may be read as a zone. A pipe or a device might never end, and neither might a file of the kernel, which says that it has
+/// no byte.
+fn may_be_zone(file: Metadata) -> Result<(), NoZone> {
+    let fault = if !file.is_file() {
+        ZoneFault::NotRegular
+    } else if file.len() == 0 {
+        ZoneFault::NotTzif
+    } else if file.len() > MAX_FILE_BYTES {
+        ZoneFault::TooLarge
+    } else {
+        return Ok(());
     };
+    Err(NoZone::Text(fault))
+}
+
+/// The bytes of an open file, which may grow meanwhile.
+fn read_open<R: Read + Drop>(alloc: Global, file: R) -> Result<Vec<u8>, NoZone>
+    ensures { IfOk result (λ bytes. length bytes.items ≤ MAX_FILE_BYTES) }
+{
+    let mut bytes = Vec::new(alloc);
+    let mut file = file.take(MAX_FILE_BYTES + 1);
+    file.read_to_end(&mut bytes).map_err(no_zone)?;
     if bytes.len() as u64 > MAX_FILE_BYTES {
         return Err(NoZone::Text(ZoneFault::TooLarge));
     }
-    match Tzif::parse(system.alloc(), None, bytes.as_slice()) {
-        Ok(_) if counts_leap_seconds(bytes.as_slice()) => Err(NoZone::Text(
-            ZoneFault::CountsLeapSeconds,
-        )),
-        Ok(table) => Ok(table),
-        Err(Error::OutOfMemory) => Err(NoZone::Memory),
-        Err(_) => Err(NoZone::Text(ZoneFault::NotTzif)),
-    }
-}
-
-/// The bytes of a file, one more at most than it may have.
-fn read_file<S: Files + AllocGlobal>(system: &S, path: &str) -> io::Result<Vec<u8>> {
-    let mut bytes = Vec::new(system.alloc());
-    let mut file = fs::open(system, path)?.take(MAX_FILE_BYTES + 1);
-    file.read_to_end(&mut bytes)?;
     Ok(bytes)
 }
 
-/// Whether TZif data counts leap seconds (RFC 8536). Behind data with times of four bytes a later version has the same once more.
-fn counts_leap_seconds(data: &[u8]) -> bool {
-    match cut_data(data) {
-        Some((leap_seconds, rest)) => leap_seconds > 0 || leap_seconds_of(rest) > 0,
-        None => false,
-    }
-}
-
-/// How many leap seconds the data counts.
-fn leap_seconds_of(data: &[u8]) -> u64 {
-    match cut_data(data) {
-        Some((leap_seconds, _)) => leap_seconds,
-        None => 0,
-    }
-}
-
-/// How many leap seconds the data counts, and what stands behind it where its times have four bytes.
-fn cut_data(data: &[u8]) -> Option<(u64, &[u8])> {
-    let header = data.get(..HEADER_LEN)?;
-    let leap_seconds = count_at(header, 28);
-    let marks = count_at(header, 20) + count_at(header, 24);
-    let times = count_at(header, 32);
-    let kinds = count_at(header, 36);
-    let letters = count_at(header, 40);
-    let len = 5 * times + 6 * kinds + letters + 8 * leap_seconds + marks;
-    Some((leap_seconds, data.get(HEADER_LEN + len as usize..)?))
-}
-
-/// The count at a place of a header, which has four bytes.
-fn count_at(header: &[u8], at: usize) -> u64
-    requires { at + 4 ≤ length header.now }
-    ensures { result < 2 ^ 32 }
+/// The table of a file's bytes.
+pub(crate) fn table_of(alloc: Global, bytes: &[u8]) -> Result<Tzif, NoZone>
+    requires { length bytes.now ≤ MAX_FILE_BYTES }
+    ensures { IfOk result IsOfFile }
 {
-    u32::from_be_bytes([header[at], header[at + 1], header[at + 2], header[at + 3]]) as u64
+    match zone_table(alloc, bytes) {
+        Ok(table) => Ok(table),
+        Err(TableError::OutOfMemory) => Err(NoZone::Memory),
+        Err(TableError::NotTzif) => Err(NoZone::Text(ZoneFault::NotTzif)),
+        Err(TableError::CountsLeapSeconds) => Err(NoZone::Text(ZoneFault::CountsLeapSeconds)),
+    }
 }
 
 /// What a fault of reading a file says of the text that names it, or of the machine.
+fn no_zone(error: io::Error) -> NoZone {
+    no_zone_of(error.kind())
+}
+
 fn no_zone_of(kind: ErrorKind) -> NoZone
     ensures { result ≡ no_zone_of kind }
 {

@@ -38,6 +38,7 @@ number_of statuses.NulInPart = 28
 number_of statuses.EmptyName = 29
 number_of statuses.OnlyCrud = 30
 number_of statuses.BeforeEpoch = 31
+number_of statuses.ZoneCountsLeapSeconds = 32
 
 -- what is answered of bytes that are text, and else that they are not
 abbrev pub if_text : {T : Type 0} → List ℕ → Result T Status → Result T Status

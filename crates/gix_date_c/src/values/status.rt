@@ -69,6 +69,8 @@ pub(crate) enum Status {
     OnlyCrud = 30,
     /// The time is before 1970, perhaps by the clock of its identity line.
     BeforeEpoch = 31,
+    /// The file of a zone counts leap seconds, as no time of Git does.
+    ZoneCountsLeapSeconds = 32,
 }
 
 impl Status {

@@ -5,13 +5,13 @@ ghost use Rattle.jiff.specs.Words.{plain_zone};
 ghost use Rattle.gix_date_c.specs.Zones.{IsCopy, IsHeld, IsHeldZone, is_file};
 ghost use Rattle.gix_date_c.specs.declared.values.status.Status.TheVariants.{Memory};
 
-use crate::moment::{rule_zone, table_of};
+use crate::moment::{table_of, text_zone};
 use crate::values::status::Status;
 use jiff::tz::{TimeZone, Tzif};
 use std::alloc::Global;
 use std::sync::Arc;
 
-/// A zone that C holds: that of a POSIX rule, or the table of a TZif file, which copies share.
+/// A zone that C holds: that of a text, or the table of a TZif file, which copies share.
 #[derive(Drop)]
 pub enum Held {
     Rule(TimeZone<'static>),
@@ -19,14 +19,14 @@ pub enum Held {
 }
 
 impl Held {
-    /// What a text names: a TZif file, or else a POSIX rule.
+    /// What a text names: a TZif file, or else what the text means by itself.
     pub(crate) fn of(alloc: Global, text: &[u8]) -> Result<Held, Status>
         ensures { IsHeld (is_file text.now) text.now result }
     {
         if is_file(text) {
             return Ok(Held::Table(shared(alloc, table_of(alloc, text)?)?));
         }
-        Ok(Held::Rule(rule_zone(text)?))
+        Ok(Held::Rule(text_zone(text)?))
     }
 
     /// The same zone once more.
@@ -54,7 +54,7 @@ impl Held {
 }
 
 /// A table that zones share.
-fn shared(alloc: Global, table: Tzif) -> Result<Arc<Tzif>, Status>
+pub(crate) fn shared(alloc: Global, table: Tzif) -> Result<Arc<Tzif>, Status>
     ensures { MatchResult result (λ shared. shared.value ≡ table) (λ status. status ≡ Memory) }
 {
     match Arc::new(alloc, table) {

@@ -1,13 +1,16 @@
 //! Dates as Git reads them: what the rows cannot say.
 use crate::library::names::same;
-use git_date::{DateError, DateKind, DateMode, ReadDate, zone_offset};
+use git_date::{
+    DateError, DateKind, DateMode, MACHINE_ZONE, ReadDate, TableError, ZONE_FOLDER, zone_file,
+    zone_folder, zone_of_text, zone_offset, zone_table, zone_without_file,
+};
 use gix_date::Time;
 use gix_date_callers::approximate_caller::{human, reference_time, since};
 use gix_date_callers::git_date_caller::date_and_ignored;
 use gix_date_callers::instant_caller::{committed, logged};
 use gix_date_callers::mail_caller::mail_time;
 use jiff::Timestamp;
-use jiff::tz::Offset;
+use jiff::tz::{Offset, TimeZone};
 use std::test::Fail;
 
 #[test]
@@ -158,6 +161,96 @@ fn the_offset_of_a_zone_has_hours_and_perhaps_minutes(rt: HostRuntime) -> Result
         "", "0200", "+2600", "+0260", "+2", "+02000", "+02:0", "+02-00", "UTC", " +0200",
     ] {
         assert!(rt; zone_offset(text.as_bytes()) == None);
+    }
+    Ok(())
+}
+
+/// The offset of a zone at 2023-07-01 00:00 in UTC.
+fn offset_in_july(zone: Option<TimeZone<'_>>) -> Result<Option<i32>, Fail> {
+    let july = Timestamp::from_second(1_688_169_600)?;
+    match zone {
+        Some(zone) => Ok(Some(zone.to_offset(july).seconds())),
+        None => Ok(None),
+    }
+}
+
+#[test]
+fn a_value_of_tz_names_a_file_unless_it_is_a_rule(rt: HostRuntime) {
+    for name in ["Europe/Berlin", "/a/b", "CET-1CEST", "UTC", MACHINE_ZONE] {
+        assert!(rt; zone_file(name) == Some(name));
+    }
+    assert!(rt; zone_file(":Europe/Berlin") == Some("Europe/Berlin"));
+    for tz in ["", ":", "UTC0", ":UTC0", "EST5EDT,M3.2.0,M11.1.0"] {
+        assert!(rt; zone_file(tz) == None);
+    }
+}
+
+#[test]
+fn a_name_stands_below_a_folder_and_a_path_by_itself(rt: HostRuntime) {
+    assert!(rt; zone_folder("Europe/Berlin", "") == ZONE_FOLDER);
+    assert!(rt; zone_folder("Europe/Berlin", "/z") == "/z");
+    assert!(rt; zone_folder("/a/b", "/z") == "");
+}
+
+#[test]
+fn a_text_means_utc_or_a_rule(rt: HostRuntime) -> Result<(), Fail> {
+    for (text, offset) in [
+        ("UTC", Some(0)),
+        ("gmt", Some(0)),
+        ("CET-1", Some(3600)),
+        ("CET-1CEST", Some(7200)),
+        ("EST5EDT,M3.2.0,M11.1.0", Some(-14_400)),
+        ("", None),
+        ("banana", None),
+        ("+0200", None),
+        ("CET-1CEST,M3.5.0", None),
+        ("Europe/Berlin", None),
+        (MACHINE_ZONE, None),
+    ] {
+        assert!(rt; offset_in_july(zone_of_text(text))? == offset);
+    }
+    Ok(())
+}
+
+#[test]
+fn without_a_file_nothing_and_the_machines_zone_are_utc(rt: HostRuntime) -> Result<(), Fail> {
+    for (tz, offset) in [
+        ("", Some(0)),
+        (":", Some(0)),
+        (MACHINE_ZONE, Some(0)),
+        (":UTC", Some(0)),
+        ("CET-1CEST", Some(7200)),
+        (":EST5EDT", Some(-14_400)),
+        ("Europe/Berlin", None),
+    ] {
+        assert!(rt; offset_in_july(zone_without_file(tz))? == offset);
+    }
+    Ok(())
+}
+
+/// The only header of a file of the first version, with so many leap seconds, and its kind of time.
+fn first_version(leap_seconds: u8) -> [u8; 54] {
+    let mut file = [0; 54];
+    file[..4].copy_from_slice(b"TZif");
+    file[31] = leap_seconds;
+    file[39] = 1;
+    file[43] = 4;
+    file[50..].copy_from_slice(b"UTC\0");
+    file
+}
+
+#[test]
+fn a_file_that_counts_leap_seconds_says_no_zone(rt: HostRuntime) -> Result<(), Fail> {
+    let one = [4, 178, 88, 0, 0, 0, 0, 1];
+    let mut counting = Vec::from_slice(rt.alloc(), &first_version(1))?;
+    counting.extend_from_slice(&one)?;
+    let refused = zone_table(rt.alloc(), counting.as_slice());
+    assert!(rt; matches!(refused, Err(TableError::CountsLeapSeconds)));
+    let table = zone_table(rt.alloc(), &first_version(0));
+    assert!(rt; matches!(table, Ok(_)));
+    for bytes in [b"".as_slice(), b"TZif", &first_version(1)] {
+        let refused = zone_table(rt.alloc(), bytes);
+        assert!(rt; matches!(refused, Err(TableError::NotTzif)));
     }
     Ok(())
 }
