@@ -96,9 +96,18 @@ modes() {
     ./gix_date_tool --help | sed -nE 's/^([a-z]+) {3,}.*/\1/p'
 }
 
+# The first block of a file of a zone, and the second of another.
+spliced() {
+    head -c "$(grep -abo TZif "$1" | sed -n '2s/:.*//p')" "$1"
+    tail -c +"$(($(grep -abo TZif "$2" | sed -n '2s/:.*//p') + 1))" "$2"
+}
+
 # Makes in a new folder what a program may read as a zone, and what it may not. The pipe may not be opened.
 make_zone_files() {
-    mkdir -p "$1/Europe" "$1/folder"
+    local tokyo=/usr/share/zoneinfo/Asia/Tokyo leaps=/usr/share/zoneinfo/right/Asia/Tokyo
+    mkdir -p "$1/Europe" "$1/folder" "$1/GMT"
+    spliced "$leaps" "$tokyo" >"$1/leaps-first"
+    spliced "$tokyo" "$leaps" >"$1/leaps-second"
     cp /usr/share/zoneinfo/Asia/Kathmandu "$1/Europe/Berlin"
     cp /usr/share/zoneinfo/Asia/Kathmandu "$1/sp ace"
     cp /usr/share/zoneinfo/Asia/Kathmandu "$1/b"$'\xff'd
@@ -123,13 +132,25 @@ make_zone_files() {
 
 # The values of TZ and TZDIR of a row, as words of `env`.
 zone_words() {
-    local name value
+    local name value long
+    printf -v long %04100d 0
     words=(-u TZ -u TZDIR)
     for name in TZ TZDIR; do
         printf -v value %b "${1//FOLDER/"$zone_files"}"
+        value=${value//LONG/"$long"} value=${value//WIDE/"${long::300}"}
         [ "$value" = unset ] || words+=("$name=$value")
         shift
     done
+}
+
+# A command that shows 1688169600 in the machine's zone has to find that of its file, which another hides here, where TZ is not set.
+finds_machine_zone() {
+    local hidden=(unshare -rm sh -c 'mount --bind /usr/share/zoneinfo/Asia/Tokyo /etc/localtime && exec env -u TZ "$@"' sh)
+    if "${hidden[@]}" true 2>/dev/null; then
+        answers 0 $'2023-07-01 09:00:00 +0900\n' "${hidden[@]}" "$@"
+    else
+        skip 'the zone of the machine' 'a kernel that lets users unshare'
+    fi
 }
 
 # A command that shows 1688169600 in the machine's zone has to find each zone of tests/rows/zones.rows, or of `zone_rows`, or to refuse it.
@@ -144,6 +165,7 @@ finds_zones() {
         [ "$found" = "$wanted" ] || fail "at $(printf '%q ' "${words[@]}") $* finds $found, where it should be $wanted"
         count=$((count + 1))
     done <"${zone_rows:-tests/rows/zones.rows}"
+    finds_machine_zone "$@"
     echo "$*: it finds the zones of $count values of TZ and TZDIR, or refuses them"
 }
 

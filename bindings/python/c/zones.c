@@ -126,28 +126,10 @@ static PyObject *made(PyObject *callable, PyObject *of, PyObject *type)
     return object;
 }
 
-/* Whether a str may be the key of a file, as it is no rule with its dates; -1 with an exception. */
-static int may_be_key(PyObject *object)
-{
-    struct text text;
-    char path[PATH_MAX];
-    size_t len;
-    if (!PyUnicode_Check(object))
-        return 0;
-    if (!take_text(object, &text))
-        return -1;
-    const uint32_t status = gix_date_zone_path(text.at, text.len, NULL, 0, path, sizeof path, &len);
-    drop_text(&text);
-    return status != GIX_DATE_OK || len > 0;
-}
-
 /* Keeps the zone of a file, by its bytes or its key, or of a rule. Refuses a file that counts leap seconds. */
 static bool keep_zone(const struct state *state, PyObject *object, struct moment *moment)
 {
-    const int is_key = may_be_key(object);
-    if (is_key < 0)
-        return false;
-    moment->kept = (struct zone *)made(state->kept[is_key ? NAMED_ZONE : READ_ZONE], object, state->kept[ZONE]);
+    moment->kept = (struct zone *)made(state->kept[PyUnicode_Check(object) ? NAMED_ZONE : READ_ZONE], object, state->kept[ZONE]);
     if (moment->kept && moment->kept->status == GIX_DATE_ZONE_COUNTS_LEAP_SECONDS)
         return refuse(state, moment->kept->status, NULL, GIT_DATE_NOTHING) != NULL;
     return moment->kept != NULL;

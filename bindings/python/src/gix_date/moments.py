@@ -120,9 +120,10 @@ def read_zone(zone: Union[str, bytes]) -> _library.Zone:
     return _library.Zone(zone)
 
 
-def named_zone(key: str) -> _library.Zone:
-    """The zone of a file by its key, or else of a rule; for any other str a zone that calls refuse."""
-    return read_zone(tzif_of(key, zoneinfo.TZPATH) or key)
+def named_zone(name: str) -> _library.Zone:
+    """The zone of a rule with its dates, of a file by its key, or of another rule; for any other str a zone that calls refuse."""
+    may_be_key = _library.zone_path(name.encode(errors="replace"), b"")
+    return read_zone((may_be_key and tzif_of(name, zoneinfo.TZPATH)) or name)
 
 
 def state_of(path: bytes) -> Tuple[int, ...]:
