@@ -311,22 +311,3 @@ pub own-without : (line : List ℕ) → IsLine line → (part : List ℕ) (lines
     → own_header (part ++ line) ≡ lines ++ last_line line
 own-without line is_line part lines whole each =
     ap (λ (xs : List ℕ). own_header (xs ++ line)) whole ∙ own-lines lines line each ∙ ap (λ (more : List (List ℕ)). lines ++ more) (own-rest line is_line)
-
--- no line of a tree or blob is looked at
-none-looked-at : (kind : Kind) (contents : List ℕ) → has_own_header kind ≡ false → lines_of kind contents ≡ []
-none-looked-at Commit contents h = cc
-none-looked-at Tag contents h = cc
-none-looked-at Tree contents h = refl
-none-looked-at Blob contents h = refl
-
-pub judges-none : (telling : Telling) (id : List ℕ) (said : Header) (source sink : StreamState) → has_own_header said.kind ≡ false
-    → JudgesAll telling id said (flow (change source source) (change sink sink)) (true, said.size)
-judges-none telling id said source sink h = record {
-  part = [];
-  lines = [];
-  given = Consumes-nil source.bytes;
-  counted = omega arith;
-  settled = λ beyond fits. none-looked-at said.kind beyond h;
-  wrote = Appends-nil sink.bytes;
-  clean = refl;
-}

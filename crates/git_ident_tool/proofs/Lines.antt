@@ -7,7 +7,7 @@ use Rattle.std.specs.List.{flat_map, list_all}
 use Rattle.gix_date.specs.Devices.StreamState.{StreamState, Gives, Takes}
 use Rattle.gix_date.specs.Text.Characters.{newline}
 use Rattle.gix_date_tool.specs.Lines.{IsLine, last_line, with_newline}
-use Rattle.gix_date_tool.specs.Run.{Change, change}
+use Rattle.gix_date_tool.specs.Run.{change}
 use Rattle.gix_date_tool.specs.declared.error.ToolError.{ToolError}
 use Rattle.gix_date_tool.specs.declared.error.ToolError.TheVariants as errors
 use Rattle.gix_date_tool.specs.declared.runs.lines.TheConstants.{MAX_LINE_LEN}
@@ -182,11 +182,3 @@ pub stops-full-lines : (telling : Telling) (a source x y : StreamState) (unread 
 stops-full-lines telling a source x y unread clean count far full =
     stops-lines telling a (at unread source) source x y unread [] far.lines far.lines (Stream TooMany) far.given far.each (no-more (at unread source).bytes) (All-nil (λ b. b ≢ newline))
     (refl, refl, far.counted ∙ full) far.wrote tt
-
--- what is told of a rest, which is a line if it has a byte
-pub rest-told : (telling : Telling) (b : ℕ) (bs : List ℕ) (clean one : Bool) (writing : Change) → Tells (text_due telling (b ∷ bs)) (is_clean (b ∷ bs)) writing (Ok one)
-    → JudgesRest telling (b ∷ bs) clean writing (Ok (clean && one))
-rest-told telling b bs clean one writing told = (
-  subst (Takes writing.old writing.new) (sym (append-nil (text_due telling (b ∷ bs)))) told.0,
-  ap (λ (q : Bool). clean && q) (told.1 ∙ sym (and-true (is_clean (b ∷ bs)))),
-)

@@ -1,11 +1,10 @@
 -- The objects of a stream judged one after the other.
-use Rattle.std.proofs.Common.{◌≡◌, ◌≢◌, ◌∙◌, ◌⊎◌, inl, inr, ◌+◌, ◌<◌, ◌≤◌, ℕ, Bool, true, false, ◌&&◌, List, [], ◌∷◌, ◌++◌, length, refl, sym, ap, ap₂, subst, append_assoc, append-nil, length-append, arith, Option, None, Some, Ok, Err}
+use Rattle.std.proofs.Common.{◌≡◌, ◌≢◌, ◌∙◌, ◌⊎◌, inl, inr, ◌+◌, ◌<◌, ℕ, Bool, true, false, ◌&&◌, List, [], ◌∷◌, ◌++◌, length, refl, sym, ap, ap₂, subst, append_assoc, append-nil, length-append, arith, Option, None, Some, Ok, Err}
 use Rattle.std.proofs.lemmas.List.Concat.{flat_map-append}
 use Rattle.std.proofs.lemmas.List.Elements.{All-append, All-cons, All-head, All-nil}
 use Rattle.std.proofs.lemmas.List.Folds.{list_all-append}
 use Rattle.std.specs.Io.KnownBytes.{Consumes, IsAtEnd, prepend_known}
 use Rattle.std.specs.List.{list_all}
-use Rattle.std.specs.declared.io.ErrorKind.{ErrorKind}
 use Rattle.gix_date.specs.Devices.StreamState.{StreamState, Gives, Takes}
 use Rattle.gix_date.specs.Text.Characters.{newline}
 use Rattle.gix_date_tool.specs.Lines.{IsLine, with_newline}
@@ -15,48 +14,23 @@ use Rattle.gix_date_tool.specs.declared.error.ToolError.{ToolError}
 use Rattle.gix_date_tool.specs.declared.error.ToolError.TheVariants as errors
 use Rattle.gix_date_tool.specs.declared.runs.lines.TheConstants.{MAX_LINE_LEN}
 use Rattle.git_ident_tool.specs.Cursor.{ReadsLine, Skips}
-use Rattle.git_ident_tool.specs.Judging.{flow, lines_due, are_clean, object_due, objects_due, is_clean_object, Wrote, Causes, StopsWithin, JudgesAll, JudgesPart, IsBeyond, IsOfInput, SkipsRest, StopsInRest, broken_due, JudgesWhole, BreaksObject, JudgesObject, JudgesAllObjects, InHeader, AtHeader, AfterHeader, StopsAfterObjects, StopsHeader, id_of}
+use Rattle.git_ident_tool.specs.Judging.{flow, lines_due, are_clean, object_due, objects_due, is_clean_object, Wrote, Causes, StopsWithin, JudgesAll, JudgesPart, IsBeyond, IsOfInput, SkipsRest, StopsInRest, broken_due, JudgesWhole, BreaksObject, JudgesObject, InHeader, AtHeader, AfterHeader, StopsAfterObjects, StopsHeader, id_of}
 use Rattle.git_ident_tool.specs.Objects.{Object, IsObject, lines_of, object_text, read_header, stream_text}
 use Rattle.git_ident_tool.specs.declared.error.Fault.{Fault}
 use Rattle.git_ident_tool.specs.declared.error.Fault.TheVariants.{Tool, Refused, Stream}
 use Rattle.git_ident_tool.specs.declared.error.StreamFault.TheVariants.{BadEnd, EarlyEnd, TooMany}
 use Rattle.git_ident_tool.specs.declared.judging.objects.TheConstants.{MAX_OBJECTS}
 use Rattle.git_ident_tool.specs.declared.judging.verdicts.Telling.{Telling}
-use Rattle.git_ident_tool.specs.declared.stream.cursor.LineEnd.TheVariants.{Newline, Full, Input}
+use Rattle.git_ident_tool.specs.declared.stream.cursor.LineEnd.TheVariants.{Newline, Full}
 use Rattle.git_ident_tool.specs.declared.stream.header.Header.{Header}
 use Rattle.git_ident_tool.proofs.Judged.{ObjectsSoFar, Appends-nil, Gives-more, Takes-more, Wrote-more, Wrote-all}
 
 -- ---- the end of an object
 
 -- the bytes of the rest were skipped, and no newline was read
-pub ends-skipping : (left : ℕ) (a b : StreamState) (fault : Fault) (rest : List ℕ) → Gives a b rest → length rest ≤ left → IsBeyond fault left rest [] → IsOfInput fault → Causes b fault
-    → StopsInRest left (change a b) fault
-ends-skipping left a b fault rest given within beyond of_input cause = record {
-  rest = rest;
-  beyond = [];
-  given = subst (Gives a b) (sym (append-nil rest)) given;
-  within = within;
-  is_beyond = beyond;
-  of_input = of_input;
-  cause = cause;
-}
-
-pub skips-short : (left : ℕ) (a b : StreamState) → Skips left a b (Ok false) → StopsInRest left (change a b) (Stream EarlyEnd)
-skips-short left a b h = ends-skipping left a b (Stream EarlyEnd) h.bytes h.given (omega (arith, h.ends.0)) refl tt h.ends.1
-
-pub skips-unread : (left : ℕ) (a b : StreamState) (kind : ErrorKind) → Skips left a b (Err kind) → StopsInRest left (change a b) (Tool (errors.Read kind))
-skips-unread left a b kind h = ends-skipping left a b (Tool (errors.Read kind)) h.bytes h.given (omega (arith, h.ends.0)) refl tt h.ends.1
-
 no-bytes : (line : List ℕ) → length line < 1 → line ≡ []
 no-bytes [] h = refl
 no-bytes (b ∷ bs) h = absurd (omega (arith, h))
-
-pub skips-rest : (left : ℕ) (a b c : StreamState) (line : List ℕ) → Skips left a b (Ok true) → ReadsLine 1 b c line (Ok Newline) → SkipsRest left (change a c)
-skips-rest left a b c line h read = record {
-  rest = h.bytes;
-  given = Gives-more a b c h.bytes (newline ∷ []) h.given (subst (λ (l : List ℕ). Gives b c (with_newline l)) (no-bytes line read.ends.1) read.ends.0);
-  all = h.ends;
-}
 
 -- another byte stands there
 one-byte : (line : List ℕ) → IsLine line → length line ≡ 1 → (b : ℕ) × (b ≢ newline) × (line ≡ b ∷ [])
@@ -73,17 +47,6 @@ skips-to-byte left a b c line h read = record {
   is_beyond = (h.ends, one-byte line read.is_line read.ends.1);
   of_input = tt;
   cause = tt;
-}
-
-pub skips-to-end : (left : ℕ) (a b c : StreamState) (line : List ℕ) → Skips left a b (Ok true) → ReadsLine 1 b c line (Ok Input) → StopsInRest left (change a c) (Stream EarlyEnd)
-skips-to-end left a b c line h read = record {
-  rest = h.bytes;
-  beyond = [];
-  given = Gives-more a b c h.bytes [] h.given (subst (Gives b c) (no-bytes line read.ends.1) read.ends.0);
-  within = omega (arith, h.ends);
-  is_beyond = refl;
-  of_input = tt;
-  cause = read.ends.2;
 }
 
 -- a fault came at that byte, which was not read
@@ -229,16 +192,6 @@ source-causes source unread (Refused why) h = tt
 source-causes source unread (Stream BadEnd) h = tt
 source-causes source unread (Stream TooMany) h = tt
 
-pub first-objects : (telling : Telling) (source sink : StreamState) (unread : List ℕ) → unread ≡ [] → ObjectsSoFar telling (flow (change source (at unread source)) (change sink sink)) true 0
-first-objects telling source sink unread none = record {
-  objects = [];
-  each = All-nil IsObject;
-  given = fresh source.bytes unread none;
-  wrote = Appends-nil sink.bytes;
-  clean_is = refl;
-  counted = refl;
-}
-
 and-true : (b : Bool) → (b && true) ≡ b
 and-true true = refl
 and-true false = refl
@@ -266,22 +219,6 @@ next-object telling a b c d x y z header clean one count far read h =
           ∙ sym (list_all-append is_clean_object far.objects (object ∷ []) ∙ ap (λ (q : Bool). list_all is_clean_object far.objects && q) (and-true (is_clean_object object)));
       counted = length-append far.objects (object ∷ []) ∙ ap (λ (n : ℕ). n + 1) far.counted;
     }
-
--- the input ends where an object may begin
-pub ends-stream : (telling : Telling) (a b source x y : StreamState) (unread header : List ℕ) (clean : Bool) (count : ℕ)
-    → ObjectsSoFar telling (flow (change a b) (change x y)) clean count → ReadsLine MAX_LINE_LEN b (at unread source) header (Ok Input) → header ≡ []
-    → JudgesAllObjects telling (flow (change a source) (change x y)) clean
-ends-stream telling a b source x y unread header clean count far read none = record {
-  objects = far.objects;
-  each = far.each;
-  given = none-ahead a.bytes source.bytes (stream_text far.objects) unread
-      (subst (Gives a (at unread source)) (append-nil (stream_text far.objects))
-      (Gives-more a b (at unread source) (stream_text far.objects) [] far.given (subst (Gives b (at unread source)) none read.ends.0)))
-      read.ends.2.0;
-  over = (source-over source.bytes unread read.ends.2.0, read.ends.2.1);
-  wrote = far.wrote;
-  clean_is = far.clean_is;
-}
 
 -- a fault came after some objects, of which this was read and this was due
 stops-after : (telling : Telling) (a b source x y z : StreamState) (unread front due : List ℕ) (clean : Bool) (count : ℕ) (fault : Fault)
@@ -321,10 +258,6 @@ stops-reading-header telling a b source x y unread front clean count (errors.Rea
 stops-reading-header telling a b source x y unread front clean count (errors.Write kind) far read = absurd read.ends
 stops-reading-header telling a b source x y unread front clean count errors.LineTooLong far read = absurd read.ends
 stops-reading-header telling a b source x y unread front clean count errors.TooManyLines far read = absurd read.ends
-
-some-byte : (front : List ℕ) → (front ≡ [] → ⊥) → 0 < length front
-some-byte [] h = absurd (h refl)
-some-byte (b ∷ bs) h = omega arith
 
 -- too many objects
 pub stops-full : (telling : Telling) (a source x y : StreamState) (unread : List ℕ) (clean : Bool) (count : ℕ)

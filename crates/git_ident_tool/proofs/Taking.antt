@@ -1,17 +1,14 @@
 -- Bytes of a source taken line by line, or skipped.
-use Rattle.std.proofs.Common.{◌≡◌, ◌≢◌, ◌∙◌, ◌+◌, ◌-◌, ◌<◌, ◌≤◌, ℕ, Bool, true, false, List, [], ◌∷◌, ◌++◌, length, take, drop, refl, sym, ap, subst, append_assoc, append-nil, length-append, length-take, length-drop, drop-drop, arith, Option, None, Some, Ok, Err}
+use Rattle.std.proofs.Common.{◌≡◌, ◌∙◌, ◌+◌, ◌-◌, ◌<◌, ◌≤◌, ℕ, Bool, true, false, List, [], ◌∷◌, ◌++◌, length, take, drop, refl, sym, ap, append_assoc, append-nil, length-append, length-take, length-drop, drop-drop, arith, Option, None, Some, Ok, Err}
 use Rattle.std.proofs.lemmas.List.{drop-take, drop_all, take-append-drop}
-use Rattle.std.proofs.lemmas.List.Elements.{All-append, All-nil}
 use Rattle.std.specs.Io.KnownBytes.{Consumes, IsAtEnd, Keeps, prepend_known}
 use Rattle.std.specs.declared.io.ErrorKind.{ErrorKind}
 use Rattle.gix_date.specs.Text.Characters.{newline}
 use Rattle.gix_date.specs.Devices.StreamState.{StreamState, Gives}
-use Rattle.gix_date_tool.specs.Lines.{IsLine, with_newline}
-use Rattle.gix_date_tool.proofs.Reading.{Consumes-append, Consumes-kept, Consumes-nil}
-use Rattle.gix_date_tool.specs.declared.error.ToolError.{ToolError}
-use Rattle.gix_date_tool.specs.declared.error.ToolError.TheVariants as errors
-use Rattle.git_ident_tool.specs.Cursor.{ReadsLine, Refills, Skips, Stretch, TakesEnd, TakesFront, TakesPart}
-use Rattle.git_ident_tool.specs.declared.stream.cursor.LineEnd.TheVariants.{Newline, Full, Input}
+use Rattle.gix_date_tool.specs.Lines.{IsLine}
+use Rattle.gix_date_tool.proofs.Reading.{Consumes-append, Consumes-kept}
+use Rattle.git_ident_tool.specs.Cursor.{ReadsLine, Refills, Skips, TakesEnd, TakesFront}
+use Rattle.git_ident_tool.specs.declared.stream.cursor.LineEnd.TheVariants.{Full}
 
 -- an input of which this is unread
 abbrev pub at : List ℕ → StreamState → StreamState
@@ -101,91 +98,12 @@ pub record Begun (most : ℕ) (first now : StreamState) (line : List ℕ) : Type
   pub is_line : IsLine line
   pub within : length line ≤ most
 
-pub Begun-first : (most : ℕ) (first : StreamState) (line : List ℕ) → line ≡ [] → Begun most first first line
-Begun-first most first line none = subst (Begun most first first) (sym none) (record {
-  given = Consumes-nil first.bytes;
-  is_line = All-nil (λ b. b ≢ newline);
-  within = omega arith;
-})
-
-pub Begun-more : (most : ℕ) (first source : StreamState) (old new : Stretch) → Begun most first (at old.unread source) old.line
-    → TakesFront (most - length old.line) old new → Begun most first (at new.unread source) new.line
-Begun-more most first source old new begun h = record {
-  given = subst (Gives first (at new.unread source)) (sym h.longer) (takes-more first source old.unread new.unread old.line h.part begun.given h.cut);
-  is_line = subst IsLine (sym h.longer) (All-append (λ b. b ≢ newline) old.line h.part begun.is_line h.is_line);
-  within = omega (arith, ap length h.longer, length-append old.line h.part, h.fits, begun.within);
-}
-
-pub Begun-kept : (most : ℕ) (first now new : StreamState) (line : List ℕ) → Begun most first now line → Keeps now.bytes new.bytes → Begun most first new line
-Begun-kept most first now new line begun kept = record {
-  given = Consumes-kept first.bytes now.bytes new.bytes line begun.given kept;
-  is_line = begun.is_line;
-  within = begun.within;
-}
-
--- the line ends
-pub ends-line : (most : ℕ) (first source : StreamState) (old new : Stretch) → Begun most first (at old.unread source) old.line
-    → TakesEnd (most - length old.line) old new → ReadsLine most first (at new.unread source) new.line (Ok Newline)
-ends-line most first source old new begun h =
-    let whole = takes-more first source old.unread new.unread old.line (with_newline h.part) begun.given h.cut in
-    let as_line : old.line ++ with_newline h.part ≡ with_newline new.line =
-    sym (append_assoc old.line h.part (newline ∷ [])) ∙ ap with_newline (sym h.longer) in
-    record {
-      is_line = subst IsLine (sym h.longer) (All-append (λ b. b ≢ newline) old.line h.part begun.is_line h.is_line);
-      ends = (subst (Gives first (at new.unread source)) as_line whole, omega (arith, ap length h.longer, length-append old.line h.part, h.fits, begun.within));
-    }
-
--- there is no memory for it
-pub stops-line : (most : ℕ) (first source : StreamState) (old new : Stretch) (fault : ToolError) → Begun most first (at old.unread source) old.line → (0 < most → length old.line < most)
-    → TakesPart (most - length old.line) old new (Err fault) → ReadsLine most first (at new.unread source) new.line (Err fault)
-stops-line most first source old new errors.Memory begun room h =
-    let now = subst (λ (s : Stretch). Begun most first (at s.unread source) s.line) (sym h) begun in
-    record { is_line = now.is_line; ends = (now.given, now.within, subst (λ (s : Stretch). 0 < most → length s.line < most) (sym h) room) }
-stops-line most first source old new (errors.Read kind) begun room h = absurd h
-stops-line most first source old new (errors.Write kind) begun room h = absurd h
-stops-line most first source old new errors.LineTooLong begun room h = absurd h
-stops-line most first source old new errors.TooManyLines begun room h = absurd h
-
 -- the input is over, or its source refused
-pub ends-input : (most : ℕ) (first now new : StreamState) (unread line : List ℕ) → Begun most first now line → length line ≢ most → Refills unread now new (Ok false)
-    → ReadsLine most first new line (Ok Input)
-ends-input most first now new unread line begun short h =
-    let later = Begun-kept most first now new line begun h.kept in
-    record { is_line = begun.is_line; ends = (later.given, omega (arith, begun.within, short), h.ends) }
-
-pub stops-input : (most : ℕ) (first now new : StreamState) (unread line : List ℕ) (kind : ErrorKind) → Begun most first now line → length line ≢ most → Refills unread now new (Err kind)
-    → ReadsLine most first new line (Err (errors.Read kind))
-stops-input most first now new unread line kind begun short h =
-    let later = Begun-kept most first now new line begun h.kept in
-    record { is_line = begun.is_line; ends = (later.given, omega (arith, begun.within, short), h.ends) }
-
 -- as much was read as was asked for
 pub ends-full : (most : ℕ) (first now : StreamState) (line : List ℕ) → Begun most first now line → length line ≡ most → ReadsLine most first now line (Ok Full)
 ends-full most first now line begun full = record { is_line = begun.is_line; ends = (begun.given, full) }
 
--- all that was unread was taken, if the line has room
-pub all-taken : (most : ℕ) (old new : Stretch) → length old.line ≤ most → length new.line ≢ most → TakesFront (most - length old.line) old new → new.unread ≡ []
-all-taken most old new within short h = h.all (omega (arith, ap length h.longer, length-append old.line h.part, h.fits, short, within))
-
--- then the line grew by all of it
-pub grown-by : (most : ℕ) (old new : Stretch) → length old.line ≤ most → length new.line ≢ most → TakesFront (most - length old.line) old new
-    → length new.line ≡ length old.line + length old.unread
-grown-by most old new within short h =
-    omega (arith, ap length h.longer, length-append old.line h.part, ap length h.cut, length-append h.part new.unread, ap length (all-taken most old new within short h))
-
 -- what is unread grew by what a source gave, where nothing was
-pub refilled : (old new : Option (List ℕ)) (before after taken : List ℕ) → before ≡ [] → Consumes old new taken → after ≡ taken → Keeps (prepend_known before old) (prepend_known after new)
-refilled None new before after taken e h k = tt
-refilled (Some xs) None before after taken e h k = absurd h
-refilled (Some xs) (Some ys) before after taken e h k =
-    ap (λ (zs : List ℕ). zs ++ ys) k ∙ sym h ∙ sym (ap (λ (zs : List ℕ). zs ++ xs) e)
-
-pub refilled-none : (old new : Option (List ℕ)) (before after : List ℕ) → before ≡ [] → Keeps old new → after ≡ [] → Keeps (prepend_known before old) (prepend_known after new)
-refilled-none None new before after e h k = tt
-refilled-none (Some xs) None before after e h k = absurd h
-refilled-none (Some xs) (Some ys) before after e h k =
-    ap (λ (zs : List ℕ). zs ++ ys) k ∙ h ∙ sym (ap (λ (zs : List ℕ). zs ++ xs) e)
-
 pub at-end : (known : Option (List ℕ)) (unread : List ℕ) → unread ≡ [] → IsAtEnd known → IsAtEnd (prepend_known unread known)
 at-end None unread e h = tt
 at-end (Some xs) unread e h = ap (λ (zs : List ℕ). zs ++ xs) e ∙ h
@@ -195,9 +113,6 @@ pub record Skipped (count : ℕ) (first now : StreamState) (left : ℕ) : Type 0
   pub bytes : List ℕ
   pub given : Gives first now bytes
   pub counted : length bytes + left ≡ count
-
-pub Skipped-first : (count : ℕ) (first : StreamState) → Skipped count first first count
-Skipped-first count first = record { bytes = []; given = Consumes-nil first.bytes; counted = omega arith }
 
 -- all that was unread is skipped
 pub Skipped-all : (count : ℕ) (first source : StreamState) (text next : List ℕ) (left less : ℕ) → next ≡ [] → less + length text ≡ left

@@ -1,13 +1,14 @@
 -- What Git writes of a name and a mail, and a written or canonical time: such a line passes.
-use Rattle.std.proofs.Common.{◌≡◌, ◌∙◌, ℕ, ◌+◌, ◌-◌, ◌*◌, ◌/◌, ◌%◌, ◌<◌, ◌≤ℤ◌, Bool, true, false, cond, not, ◌||◌, ◌==◌, List, [], ◌∷◌, ◌++◌, length, take, ℤ, pos, negsuc, neg_ℤ, Option, Some, None, Err, IfOk, ok_or, option_map, unsigned_abs, FitsSigned, w64, refl, ap, sym, subst, arith, append_assoc}
+use Rattle.std.proofs.lemmas.Grind.{common_steps}
+use Rattle.std.proofs.Common.{◌≡◌, ◌∙◌, ℕ, ◌+◌, ◌*◌, ◌/◌, ◌%◌, ◌<◌, ◌≤ℤ◌, Bool, true, false, cond, not, ◌||◌, ◌==◌, List, [], ◌∷◌, ◌++◌, length, ℤ, pos, negsuc, neg_ℤ, Option, Some, None, Err, IfOk, ok_or, option_map, unsigned_abs, FitsSigned, w64, refl, ap, sym, subst, arith, append_assoc}
 use Rattle.std.proofs.lemmas.Bool.{and_from, and_parts}
 use Rattle.std.proofs.lemmas.Bool.Decides.{nat_tests}
 use Rattle.std.proofs.lemmas.Int.{ints}
 use Rattle.std.proofs.lemmas.List.{take_all, append-nil}
-use Rattle.std.proofs.lemmas.List.Elements.{All-take, All-drop, filter-append}
-use Rattle.std.proofs.lemmas.List.Sums.{AllPass-from_list_all, list_all-from_AllPass}
+use Rattle.std.proofs.lemmas.List.Elements.{filter-append}
+use Rattle.std.proofs.lemmas.List.Sums.{list_all-from_AllPass}
 use Rattle.std.proofs.lemmas.Option.{same_Some}
-use Rattle.std.specs.List.{list_all, list_any, filter, prefix_len, suffix_len}
+use Rattle.std.specs.List.{list_all, list_any, filter}
 use Rattle.std.specs.Prelude.{int_lt}
 use Rattle.gix_date.proofs.Fast.FastHeaders.{usual-header}
 use Rattle.gix_date.proofs.Fields.FieldsTaken.{time_at}
@@ -21,7 +22,7 @@ use Rattle.gix_date.specs.declared.time.Time.{Time}
 use Rattle.gix_signature.specs.Signature.{is_allowed, is_part, line_of}
 use Rattle.gix_signature.specs.Ident.Bytes.{is_blank, is_crud, is_kept, is_bracket, is_newline, is_nul}
 use Rattle.gix_signature.specs.Ident.Texts.{without_front, without_end}
-use Rattle.gix_signature.specs.Ident.Due.{cleaned, trimmed, ident_due, cleaned_parts}
+use Rattle.gix_signature.specs.Ident.Due.{cleaned, ident_due, cleaned_parts}
 use Rattle.gix_signature.specs.Ident.Laws.{PassesAs, WrittenPasses, CanonicalPasses, in_minutes}
 use Rattle.gix_signature.specs.declared.error.IdentFault.TheVariants.{NulInPart, EmptyName, OnlyCrud, BeforeEpoch, OffsetTooWide}
 use Rattle.gix_signature.proofs.Cuts.{ArePlain, plain}
@@ -36,9 +37,7 @@ from-end P more front (x ∷ xs) h = subst P (append_assoc front (x ∷ []) xs) 
 
 -- what ends with another byte keeps its end
 end-stays : (p : ℕ → Bool) (xs : List ℕ) (c : ℕ) → p c ≡ false → without_end p (xs ++ (c ∷ [])) ≡ xs ++ (c ∷ [])
-end-stays p xs c h =
-    let none : suffix_len p (xs ++ (c ∷ [])) ≡ 0 = last-len p xs c ∙ ap (λ b. cond b (1 + suffix_len p xs) 0) h in
-    ap (λ n. take (length (xs ++ (c ∷ [])) - n) (xs ++ (c ∷ []))) none ∙ take_all (length (xs ++ (c ∷ [])) - 0) (xs ++ (c ∷ [])) (omega arith)
+end-stays p xs c h = grind (arith, last-len, take_all)
 
 -- no blank and no byte that is left out is other than crud
 no-crud : (c : ℕ) → is_crud c ≡ false → (is_blank c ≡ false) × (is_kept c ≡ true)
@@ -49,11 +48,7 @@ EndsKept xs = without_end is_blank (filter is_kept (without_end is_crud xs)) ≡
 
 ends-by : (xs : List ℕ) (c : ℕ) (b : Bool) → is_crud c ≡ b → EndsKept xs → EndsKept (xs ++ (c ∷ []))
 ends-by xs c true e h = subst (λ ys. without_end is_blank (filter is_kept ys) ≡ filter is_kept ys) (sym (end-more is_crud xs c e)) h
-ends-by xs c false e h =
-    let is = no-crud c e in
-    let kept : filter is_kept (xs ++ (c ∷ [])) ≡ filter is_kept xs ++ (c ∷ []) = filter-append is_kept xs (c ∷ []) ∙ ap (λ b. filter is_kept xs ++ cond b (c ∷ []) []) is.1 in
-    subst (λ ys. without_end is_blank (filter is_kept ys) ≡ filter is_kept ys) (sym (end-stays is_crud xs c e))
-    (subst (λ ys. without_end is_blank ys ≡ ys) (sym kept) (end-stays is_blank (filter is_kept xs) c is.0))
+ends-by xs c false e h = grind (arith, no-crud, filter-append, end-stays)
 
 -- no blank stands at the end of what is cleaned
 cleaned-ends : (part : List ℕ) → without_end is_blank (cleaned part) ≡ cleaned part
@@ -84,11 +79,7 @@ kept-part (x ∷ xs) h = let each = and_parts (not_nul x) (list_all not_nul xs) 
 
 -- what is cleaned may be a part
 cleaned-part : (part : List ℕ) → list_any is_nul part ≡ false → is_part (cleaned part) ≡ true
-cleaned-part part h =
-    let front = without_front is_crud part in
-    kept-part (trimmed part) (list_all-from_AllPass not_nul (trimmed part)
-    (All-take (λ c. not_nul c ≡ true) (length front - suffix_len is_crud front) front
-    (All-drop (λ c. not_nul c ≡ true) (prefix_len is_crud part) part (AllPass-from_list_all not_nul part (none-nul part h)))))
+cleaned-part part h = grind (arith, nat_tests, common_steps, kept-part, list_all-from_AllPass, none-nul)
 
 -- A time from the epoch on.
 dated : (name mail text : List ℕ) (z o : ℤ) → pos 0 ≤ℤ z → FitsSigned w64 z → unsigned_abs o < 360000 → text ≡ decimal_text z ++ (space ∷ compact_offset_text o)

@@ -1,5 +1,6 @@
 -- A line has one cut at most.
-use Rattle.std.proofs.Common.{◌≡◌, ◌∙◌, ℕ, Bool, true, false, not, ◌||◌, ◌&&◌, ◌==◌, List, [], ◌∷◌, ◌++◌, length, drop, get_or, refl, ap, sym, append_assoc}
+use Rattle.std.proofs.Common.{arith}
+use Rattle.std.proofs.Common.{◌≡◌, ◌∙◌, ℕ, Bool, true, false, not, ◌||◌, ◌==◌, List, [], ◌∷◌, ◌++◌, drop, get_or, refl, ap, sym, append_assoc}
 use Rattle.std.proofs.lemmas.Bool.{and_from, and_parts}
 use Rattle.std.proofs.lemmas.List.{append_cancel_right}
 use Rattle.std.proofs.lemmas.List.Folds.{list_all-append}
@@ -14,17 +15,13 @@ all-of p q to [] h = refl
 all-of p q to (x ∷ xs) h = let each = and_parts (p x) (list_all p xs) h in and_from (q x) (list_all q xs) (to x each.0) (all-of p q to xs each.1)
 
 not-all : (p : ℕ → Bool) (c : ℕ) (xs ys : List ℕ) → p c ≡ false → list_all p (xs ++ (c ∷ ys)) ≡ true → ⊥
-not-all p c xs ys other h =
-    let after = and_parts (list_all p xs) (list_all p (c ∷ ys)) (sym (list_all-append p xs (c ∷ ys)) ∙ h) in
-    let clash : true ≡ false = sym (and_parts (p c) (list_all p ys) after.1).0 ∙ other in
-    absurd cc
+not-all p c xs ys other h = grind (arith, and_parts, list_all-append)
 
 -- a byte that stands once in a text tells where the text is cut at it
 one-place : (p : ℕ → Bool) (c : ℕ) (xs ys us vs : List ℕ) → p c ≡ false → list_all p us ≡ true → list_all p vs ≡ true
     → xs ++ (c ∷ ys) ≡ us ++ (c ∷ vs) → (xs ≡ us) × (ys ≡ vs)
 one-place p c [] ys [] vs other a b e = (refl, ap (drop 1) e)
-one-place p c [] ys (u ∷ us) vs other a b e =
-    let clash : true ≡ false = sym (and_parts (p u) (list_all p us) a).0 ∙ ap (λ l. p (get_or l 0 0)) (sym e) ∙ other in absurd cc
+one-place p c [] ys (u ∷ us) vs other a b e = grind (arith, and_parts)
 one-place p c (x ∷ xs) ys [] vs other a b e = absurd (not-all p c xs ys other (ap (λ l. list_all p (drop 1 l)) e ∙ b))
 one-place p c (x ∷ xs) ys (u ∷ us) vs other a b e =
     let rest = one-place p c xs ys us vs other (and_parts (p u) (list_all p us) a).1 b (ap (drop 1) e) in
@@ -53,11 +50,7 @@ pub record ArePlain (p : Parts) : Type 0 where
   pub time : is_part p.time ≡ true
 
 pub plain : (p : Parts) → are_parts p ≡ true → ArePlain p
-plain p h =
-    let three = (and_parts (is_part p.name && is_part p.mail && is_part p.time) (not (length p.time == 0)) h).0 in
-    let last = and_parts (is_part p.name && is_part p.mail) (is_part p.time) three in
-    let front = and_parts (is_part p.name) (is_part p.mail) last.0 in
-    record { name = front.0; mail = front.1; time = last.1 }
+plain p h = grind (arith, and_parts)
 
 -- the name with the space after it, `<` and what stands after that
 pub marked : (name rest : List ℕ) → name ++ (codes " <" ++ rest) ≡ (name ++ (32 ∷ [])) ++ (opening ∷ rest)
@@ -88,5 +81,4 @@ the-cut line p q whole cut =
 
 -- a line that is taken apart at its marks into what may not stand has no cut
 pub no-cut : (line : List ℕ) (p : Parts) → line ≡ line_of p → are_parts p ≡ false → (q : Parts) → IsCut line q → ⊥
-no-cut line p whole bad q cut =
-    let clash : true ≡ false = sym cut.allowed ∙ ap are_parts (sym (the-cut line p q whole cut)) ∙ bad in absurd cc
+no-cut line p whole bad q cut = grind (arith, the-cut)

@@ -1,5 +1,5 @@
 -- A written date: decimal digits, a space, a sign and four digits. What C, `git fsck` and Git read of it.
-use Rattle.std.proofs.Common.{◌≡◌, ◌∙◌, ℕ, ◌+◌, ◌*◌, ◌/◌, ◌%◌, ◌^◌, ◌<◌, ◌≤◌, Bool, true, false, cond, not, ◌&&◌, ◌||◌, ◌==◌, List, [], ◌∷◌, ◌++◌, length, take, drop, Some, None, Ok, Err, ℤ, pos, negsuc, neg_ℤ, unsigned_abs, zero, suc, refl, ap, ap₂, sym, arith}
+use Rattle.std.proofs.Common.{◌≡◌, ◌∙◌, ℕ, ◌+◌, ◌*◌, ◌/◌, ◌%◌, ◌^◌, ◌<◌, ◌≤◌, Bool, true, false, cond, not, ◌&&◌, ◌||◌, ◌==◌, List, [], ◌∷◌, ◌++◌, length, take, drop, Some, None, Ok, ℤ, pos, negsuc, neg_ℤ, unsigned_abs, zero, suc, refl, ap, ap₂, sym, arith}
 use Rattle.std.proofs.Math.Seq.{take-append_seam, drop-append_seam}
 use Rattle.std.proofs.lemmas.Bool.{and_from, and_parts}
 use Rattle.std.proofs.lemmas.Bool.Decides.{nat_tests}
@@ -21,9 +21,8 @@ use Rattle.gix_date.specs.Fields.Offsets.{compact_offset_text, offset_sign, hour
 use Rattle.gix_signature.specs.Ident.Bytes.{is_blank, is_white, is_minus, is_sign}
 use Rattle.gix_signature.specs.Ident.Texts.{without_front, begins_with}
 use Rattle.gix_signature.specs.Ident.Parts.{date_parts, after_seconds, offset_at_front, begins_with_offset}
-use Rattle.gix_signature.specs.Ident.Times.{c_number, c_value, number_at_front, without_sign, too_many_seconds, kept_offset, least_offset, greatest_offset, widest_minutes, minutes_told, with_sign_of, time_of_git, git_time, git_time_at, seconds_shown}
+use Rattle.gix_signature.specs.Ident.Times.{c_number, c_value, number_at_front, without_sign, too_many_seconds, kept_offset, least_offset, greatest_offset, minutes_told, with_sign_of, time_of_git, git_time}
 use Rattle.gix_signature.specs.Ident.Laws.{in_minutes}
-use Rattle.gix_signature.specs.declared.error.IdentFault.TheVariants.{OffsetTooWide}
 use Rattle.gix_signature.specs.Ident.Fsck.{has_date_fault, is_zero, is_fsck_zone}
 use Rattle.gix_signature.specs.declared.fsck.FsckId.{FsckId}
 use Rattle.gix_signature.specs.declared.fsck.FsckId.TheVariants.{NulInHeader, MissingNameBeforeEmail, BadName, MissingEmail, MissingSpaceBeforeEmail, BadEmail, MissingSpaceBeforeDate, ZeroPaddedDate, BadDateOverflow, BadDate, BadTimezone}
@@ -40,20 +39,10 @@ pub record AreDecimal (n : ℕ) (text : List ℕ) : Type 0 where
   pub alone : is_zero first ≡ true → (n ≡ 0) × (rest ≡ [])
 
 one-digit : (n : ℕ) → n < 10 → AreDecimal n ((48 + n) ∷ [])
-one-digit n h =
-    record { first = 48 + n; rest = []; whole = refl; digit = is-digit n h; digits = refl; alone = λ z. (grind (arith, nat_tests, z), refl) }
+one-digit n h = grind (arith, is-digit, nat_tests)
 
 digit-more : (n : ℕ) (ds : List ℕ) → 10 ≤ n → AreDecimal (n / 10) ds → AreDecimal n (ds ++ ((48 + n % 10) ∷ []))
-digit-more n ds h k =
-    let last : List ℕ = (48 + n % 10) ∷ [] in
-    record {
-      first = k.first;
-      rest = k.rest ++ last;
-      whole = ap (λ xs. xs ++ last) k.whole;
-      digit = k.digit;
-      digits = all-append is_ascii_digit k.rest last k.digits (and_from (is_ascii_digit (48 + n % 10)) true (is-digit (n % 10) (omega arith)) refl);
-      alone = λ z. absurd (omega (arith, h, (k.alone z).0));
-    }
+digit-more n ds h k = grind (arith, all-append, and_from, is-digit)
 
 pub are-decimal : (n : ℕ) → n < 2 ^ 64 → AreDecimal n (decimal n)
 are-decimal = decimal_by_steps AreDecimal one-digit digit-more
@@ -89,7 +78,7 @@ front-stays : (p : ℕ → Bool) (c : ℕ) (xs : List ℕ) → p c ≡ false →
 front-stays p c xs h = ap (λ b. drop (cond b (1 + prefix_len p xs) 0) (c ∷ xs)) h
 
 pub front-more : (p : ℕ → Bool) (c : ℕ) (xs : List ℕ) → p c ≡ true → without_front p (c ∷ xs) ≡ without_front p xs
-front-more p c xs h = ap (λ b. drop (cond b (1 + prefix_len p xs) 0) (c ∷ xs)) h ∙ ap (λ k. drop k (c ∷ xs)) (add-one-front (prefix_len p xs))
+front-more p c xs h = grind (arith, add-one-front)
 
 module _ (n d : ℕ) (ds : List ℕ) (s : ℕ) (zs : List ℕ) (is : IsDate n d ds s zs) where
   abbrev zone : List ℕ
@@ -177,18 +166,13 @@ module _ (n d : ℕ) (ds : List ℕ) (s : ℕ) (zs : List ℕ) (is : IsDate n d 
 
 -- Two pairs of digits, and what they write.
 pair-digits : (n : ℕ) → n < 100 → list_all is_ascii_digit (two_digits n) ≡ true
-pair-digits n h = and_from (is_ascii_digit (48 + n / 10)) (is_ascii_digit (48 + n % 10) && true) (is-digit (n / 10) (omega arith)) (and_from (is_ascii_digit (48 + n % 10)) true (is-digit (n % 10) (omega arith)) refl)
+pair-digits n h = grind (arith, and_from, is-digit)
 
 digit-value : (k : ℕ) → k < 10 → digit_value (48 + k) ≡ k
 digit-value k h = let v = digit_value_digit (48 + k) (omega arith, omega arith) in omega (arith, v)
 
 pairs-value : (h m : ℕ) → h < 100 → m < 100 → digits_value 10 (two_digits h ++ two_digits m) ≡ 100 * h + m
-pairs-value h m a b =
-    let v = digit-value (h / 10) (omega arith) in
-    let w = digit-value (h % 10) (omega arith) in
-    let x = digit-value (m / 10) (omega arith) in
-    let y = digit-value (m % 10) (omega arith) in
-    rw (v, w, x, y) (omega arith)
+pairs-value h m a b = grind (arith, digit-value)
 
 -- The time of a written offset.
 sign-value : (b : Bool) (ds : List ℕ) → signed_digits_value 10 ((if b then minus else plus) ∷ ds) ≡ cond b (neg_ℤ (pos (digits_value 10 ds))) (pos (digits_value 10 ds))
@@ -208,9 +192,7 @@ kept-small z h = ap₂ (λ a b. cond (a || b) (pos 0) z) (not-below z h) (not-ab
 
 told-small : (s z : ℤ) → unsigned_abs z < 10000 → time_of_git (record { seconds = s; offset = z }) ≡ Ok (record { seconds = s; offset = with_sign_of z (60 * minutes_told (unsigned_abs z)) })
 unfolding time_of_git
-told-small s z h =
-    let few : nat_lt widest_minutes (minutes_told (unsigned_abs z)) ≡ false = let w : minutes_told (unsigned_abs z) < 10000 = omega (arith, h) in grind (arith, nat_tests, w) in
-    ap (λ b. cond b (Err OffsetTooWide) (Ok (record { seconds = s; offset = with_sign_of z (60 * minutes_told (unsigned_abs z)) }))) few
+told-small s z h = grind (arith, nat_tests)
 
 signed-alike : (b : Bool) (n m : ℕ) → (n ≡ 0 → m ≡ 0) → with_sign_of (cond b (neg_ℤ (pos n)) (pos n)) m ≡ cond b (neg_ℤ (pos m)) (pos m)
 signed-alike false n m h = let no : int_lt (pos n) (pos 0) ≡ false = grind (arith, ints) in ap (λ b. cond b (neg_ℤ (pos m)) (pos m)) no
@@ -229,23 +211,12 @@ minutes-are n = omega arith
 -- the time of a number with its sign, of that many seconds
 time-at : (n told m : ℕ) (b : Bool) → told < 10000 → 60 * minutes_told told ≡ m
     → time_of_git (record { seconds = pos n; offset = kept_offset (cond b (neg_ℤ (pos told)) (pos told)) }) ≡ Ok (record { seconds = pos n; offset = cond b (neg_ℤ (pos m)) (pos m) })
-time-at n told m b small minutes =
-    let z = cond b (neg_ℤ (pos told)) (pos told) in
-    let abs = abs-alike b told in
-    ap (λ w. time_of_git (record { seconds = pos n; offset = w })) (kept-small z (omega (arith, abs, small))) ∙ told-small (pos n) z (omega (arith, abs, small))
-    ∙ ap (λ w. Ok (record { seconds = pos n; offset = with_sign_of z w })) (ap (λ v. 60 * minutes_told v) abs ∙ minutes)
-    ∙ ap (λ w. Ok (record { seconds = pos n; offset = w })) (signed-alike b told m (λ e. omega (arith, e, minutes)))
+time-at n told m b small minutes = grind (arith, abs-alike, kept-small, told-small, signed-alike)
 
 pub time-is : (n : ℕ) (o : ℤ) (ds : List ℕ) → n < too_many_seconds → unsigned_abs o < 360000 → digits_value 10 ds ≡ n
     → time_of_git (git_time (record { seconds = ds; offset = compact_offset_text o })) ≡ Ok (in_minutes (record { seconds = pos n; offset = o }))
 unfolding git_time
-time-is n o ds small short value =
-    let m = unsigned_abs o in
-    let b = int_lt o (pos 0) in
-    let few : nat_lt n too_many_seconds ≡ true = grind (arith, nat_tests, small) in
-    ap₂ (λ s v. time_of_git (git_time_at s v)) (ap seconds_shown value ∙ ap (λ b. cond b (Some (pos n)) None) few)
-    (sign-value b (hours_and_minutes m) ∙ ap (λ v. cond b (neg_ℤ (pos v)) (pos v)) (pairs-value (m / 3600) (m % 3600 / 60) (omega arith) (omega arith)))
-    ∙ time-at n (100 * (m / 3600) + m % 3600 / 60) (60 * (m / 60)) b (omega (arith, short)) (minutes-are m)
+time-is n o ds small short value = grind (arith, nat_tests, sign-value, pairs-value, time-at, minutes-are)
 
 -- a number and an offset, written as a date
 pub date-is : (n : ℕ) (o : ℤ) (k : AreDecimal n (decimal n)) → n < too_many_seconds → unsigned_abs o < 360000 → IsDate n k.first k.rest (offset_sign o) (hours_and_minutes (unsigned_abs o))

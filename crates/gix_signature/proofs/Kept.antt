@@ -1,4 +1,5 @@
 -- Runs of what is kept, that a sink takes one after the other.
+use Rattle.std.proofs.Common.{arith}
 use Rattle.std.proofs.Common.{◌≡◌, ◌∙◌, ℕ, Bool, List, ◌++◌, take, drop, Err, sym, ap, subst, append_assoc}
 use Rattle.std.specs.List.{filter, prefix_len}
 use Rattle.std.specs.declared.io.ErrorKind.{ErrorKind}
@@ -10,8 +11,7 @@ use Rattle.gix_signature.proofs.Texts.{kept-run}
 -- what is kept of a rest: its first run, and what is kept of the rest after that
 whole : (p : ℕ → Bool) (text rest written run : List ℕ) → filter p text ≡ written ++ filter p rest → run ≡ take (prefix_len p rest) rest
     → filter p text ≡ written ++ (run ++ filter p (drop 1 (drop (prefix_len p rest) rest)))
-whole p text rest written run e is =
-    e ∙ ap (λ ys. written ++ ys) (kept-run p rest ∙ ap (λ ys. ys ++ filter p (drop 1 (drop (prefix_len p rest) rest))) (sym is))
+whole p text rest written run e is = grind (arith, kept-run)
 
 -- a fault within a run is one within the whole
 pub cut-within : (old mid new : StreamState) (p : ℕ → Bool) (text rest written run : List ℕ) (kind : ErrorKind) → filter p text ≡ written ++ filter p rest

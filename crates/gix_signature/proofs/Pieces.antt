@@ -14,9 +14,7 @@ Takes-then old mid new xs ys h k = Appends-append old.bytes mid.bytes new.bytes 
 
 -- a proper prefix of a text is one of a longer text too
 pub Cut-more : (old new : StreamState) (xs ys : List ℕ) → TakesProperPrefix old new xs → TakesProperPrefix old new (xs ++ ys)
-Cut-more old new xs ys h =
-    let within = h.1 in
-    (h.0, omega (arith, length-append xs ys), subst (Takes old new) (sym (take-append-le h.0 xs ys (omega arith))) h.2)
+Cut-more old new xs ys h = grind (arith, length-append, take-append-le)
 
 -- a text, and then a proper prefix of the next
 pub Cut-after : (old mid new : StreamState) (xs ys : List ℕ) → Takes old mid xs → TakesProperPrefix mid new ys → TakesProperPrefix old new (xs ++ ys)

@@ -1,5 +1,5 @@
 -- What Git shows of a line that is cut.
-use Rattle.std.proofs.Common.{◌≡◌, ◌∙◌, ℕ, ◌+◌, ◌-◌, Bool, true, false, cond, not, ◌||◌, ◌==◌, List, [], ◌∷◌, ◌++◌, length, take, drop, Some, None, IsSomeAnd, codes, refl, ap, sym, arith, length-append}
+use Rattle.std.proofs.Common.{◌≡◌, ◌∙◌, ℕ, ◌+◌, Bool, true, false, cond, not, ◌||◌, ◌==◌, List, [], ◌∷◌, ◌++◌, length, take, drop, Some, None, IsSomeAnd, refl, ap, sym, arith, length-append}
 use Rattle.std.proofs.Math.Nat.{add-zero, zero-add}
 use Rattle.std.proofs.Math.Seq.{take-append_seam, drop-append-add}
 use Rattle.std.proofs.lemmas.Bool.{and_from, and_parts}
@@ -31,7 +31,7 @@ run-all p (x ∷ xs) h =
 
 -- a run ends before a byte that does not pass
 pub run-len : (p : ℕ → Bool) (xs ys : List ℕ) (c : ℕ) → list_all p xs ≡ true → p c ≡ false → prefix_len p (xs ++ (c ∷ ys)) ≡ length xs
-run-len p xs ys c all stops = run-before p xs (c ∷ ys) all ∙ ap (λ b. length xs + cond b (1 + prefix_len p ys) 0) stops ∙ add-zero (length xs)
+run-len p xs ys c all stops = grind (arith, run-before, add-zero)
 
 -- the first byte that passes, after some that do not
 pub place-at : (p : ℕ → Bool) (xs ys : List ℕ) (c : ℕ) → list_all (λ b. not (p b)) xs ≡ true → p c ≡ true → position_or_len p (xs ++ (c ∷ ys)) ≡ length xs
@@ -44,8 +44,7 @@ pub after-at : (p : ℕ → Bool) (xs ys : List ℕ) (c : ℕ) → list_all (λ 
 after-at p xs ys c others is = ap (λ n. drop (n + 1) (xs ++ (c ∷ ys))) (place-at p xs ys c others is) ∙ drop-append-add xs (c ∷ ys) 1
 
 pub there-at : (p : ℕ → Bool) (xs ys : List ℕ) (c : ℕ) → list_all (λ b. not (p b)) xs ≡ true → p c ≡ true → list_any p (xs ++ (c ∷ ys)) ≡ true
-there-at p xs ys c others is =
-    one-there p (xs ++ (c ∷ ys)) (omega (arith, place-at p xs ys c others is, length-append xs (c ∷ ys)))
+there-at p xs ys c others is = grind (arith, one-there, place-at, length-append)
 
 -- one more byte at the end
 pub last-len : (p : ℕ → Bool) (xs : List ℕ) (c : ℕ) → suffix_len p (xs ++ (c ∷ [])) ≡ cond (p c) (1 + suffix_len p xs) 0
@@ -53,10 +52,7 @@ last-len p xs c = ap (λ ys. prefix_len p ys) (reverse-append xs (c ∷ []))
 
 -- blanks at the end are cut, one more or not
 pub end-more : (p : ℕ → Bool) (xs : List ℕ) (c : ℕ) → p c ≡ true → without_end p (xs ++ (c ∷ [])) ≡ without_end p xs
-end-more p xs c is =
-    let last : suffix_len p (xs ++ (c ∷ [])) ≡ 1 + suffix_len p xs = last-len p xs c ∙ ap (λ b. cond b (1 + suffix_len p xs) 0) is in
-    let left : length (xs ++ (c ∷ [])) - suffix_len p (xs ++ (c ∷ [])) ≡ length xs - suffix_len p xs = omega (arith, last, length-append xs (c ∷ [])) in
-    ap (λ n. take n (xs ++ (c ∷ []))) left ∙ take-append-le (length xs - suffix_len p xs) xs (c ∷ []) (omega arith)
+end-more p xs c is = grind (arith, last-len, length-append, take-append-le)
 
 -- no byte of a line that is cut ends it
 last-two : (a b c d : Bool) → not (a || b || c || d) ≡ true → not (c || d) ≡ true
@@ -82,9 +78,7 @@ pub no-closing : (xs : List ℕ) → is_part xs ≡ true → list_all not_closin
 no-closing = all-of is_allowed not_closing (λ c h. second (c == 60) (c == 62) (c == 10) (c == 0) h)
 
 pub all-on : (p : Parts) → ArePlain p → list_all goes_on (line_of p) ≡ true
-all-on p are =
-    all-append goes_on p.name (codes " <" ++ after_name p) (on p.name are.name)
-    (all-append goes_on p.mail (codes "> " ++ p.time) (on p.mail are.mail) (on p.time are.time))
+all-on p are = grind (arith, all-append, after_name, on)
 
 -- without such a byte all of a text stands before it
 pub all-before : (p : ℕ → Bool) (xs : List ℕ) → list_all (λ c. not (p c)) xs ≡ true → before_first p xs ≡ xs

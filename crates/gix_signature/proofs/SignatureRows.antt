@@ -1,5 +1,6 @@
 -- Lines that the definitions are checked on.
-use Rattle.std.proofs.Common.{◌≡◌, ◌≢◌, ◌∙◌, true, false, List, ℕ, [], ◌∷◌, ◌++◌, pos, negsuc, Ok, Err, Some, unwrap_or, refl, ap, sym}
+use Rattle.std.proofs.Common.{arith}
+use Rattle.std.proofs.Common.{◌≡◌, ◌≢◌, true, false, List, ℕ, [], ◌∷◌, ◌++◌, pos, negsuc, Ok, Err, Some, refl}
 use Rattle.std.specs.Fmt.{digits}
 use Rattle.std.specs.Prelude.{codes}
 use Rattle.gix_date.specs.Header.Reading.{header_time}
@@ -83,6 +84,4 @@ behind_utc = record { seconds = pos 5; offset = negsuc 5399 }
 
 written : (line : List ℕ) → (h : IsWritten (codes "A") (codes "a") behind_utc line) → (line ≡ codes "A <a> 5 -0130") × (header_time h.text ≡ Some behind_utc)
 unfolding header_text digits
-written line h =
-    let text : h.text ≡ codes "5 -0130" = ap (λ o. unwrap_or o []) (sym h.is_text) in
-    (h.cut.whole ∙ ap (λ x. line_of (parts (codes "A") (codes "a") x)) text, h.back refl)
+written line h = grind (arith)

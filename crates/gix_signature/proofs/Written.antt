@@ -1,10 +1,10 @@
 -- What is written of a name, a mail and a time, and how it is cut.
-use Rattle.std.proofs.Common.{◌≡◌, ◌≢◌, ℕ, ◌+◌, ◌/◌, ◌%◌, ◌^◌, ◌<◌, suc, Bool, true, false, cond, not, ◌&&◌, ◌==◌, List, [], ◌∷◌, ◌++◌, length, ℤ, pos, negsuc, Option, Some, None, Result, Ok, Err, IsSomeAnd, IfOk, OnOk, ok_or, option_map, unwrap_or, unsigned_abs, FitsSigned, w64, refl, ap, sym, subst, arith, length-append}
+use Rattle.std.proofs.Common.{◌≡◌, ◌≢◌, ℕ, ◌+◌, ◌/◌, ◌%◌, ◌^◌, ◌<◌, suc, Bool, true, false, cond, not, ◌&&◌, ◌==◌, List, [], ◌∷◌, ◌++◌, length, ℤ, pos, negsuc, Option, Some, None, Result, Ok, Err, IsSomeAnd, IfOk, OnOk, ok_or, option_map, unwrap_or, unsigned_abs, FitsSigned, w64, refl, ap, subst, arith, length-append}
 use Rattle.std.proofs.lemmas.Bool.{and_from}
 use Rattle.std.proofs.lemmas.Bool.Decides.{nat_tests}
 use Rattle.std.proofs.lemmas.Fmt.{decimal_by_steps}
 use Rattle.std.specs.Fmt.{decimal}
-use Rattle.std.specs.Prelude.{if◌then◌else◌, nat_lt, int_lt}
+use Rattle.std.specs.Prelude.{if◌then◌else◌}
 use Rattle.gix_date.specs.Text.Characters.{space, plus, minus}
 use Rattle.gix_date.specs.Header.Reading.{header_time}
 use Rattle.gix_date.specs.Header.Text.{header_text}
@@ -13,7 +13,7 @@ use Rattle.gix_date.specs.Devices.StreamState.{StreamState, Takes}
 use Rattle.gix_date.specs.Text.Numbers.{decimal_text, two_digits}
 use Rattle.gix_date.specs.declared.time.Time.{Time}
 use Rattle.gix_date.proofs.Header.HeaderLaws.{written-is-read}
-use Rattle.gix_signature.specs.Signature.{is_allowed, is_part, line_of, opening, closing, newline, nul}
+use Rattle.gix_signature.specs.Signature.{is_allowed, is_part, line_of}
 use Rattle.gix_signature.specs.Writing.{line_due, parts_due, WritesLine, IsWritten}
 use Rattle.gix_signature.specs.declared.error.SignatureError.{SignatureError}
 use Rattle.gix_signature.specs.declared.error.SignatureError.TheVariants.{BadPart, OffsetTooWide}
@@ -24,8 +24,7 @@ differs a b h = grind (arith, nat_tests, h)
 
 -- A header text may stand in a line.
 digit-stands : (n : ℕ) → n < 10 → is_allowed (48 + n) ≡ true
-digit-stands n h =
-    rw (differs (48 + n) opening (λ e. omega (arith, e)), differs (48 + n) closing (λ e. omega (arith, e)), differs (48 + n) newline (λ e. omega (arith, e)), differs (48 + n) nul (λ e. omega (arith, e))) refl
+digit-stands n h = grind (arith, differs)
 
 one-stands : (n : ℕ) → n < 10 → is_part ((48 + n) ∷ []) ≡ true
 one-stands n h = and_from (is_allowed (48 + n)) true (digit-stands n h) refl
@@ -45,11 +44,7 @@ sign-stands true = refl
 sign-stands false = refl
 
 zone-stands : (o : ℤ) → unsigned_abs o < 360000 → is_part (compact_offset_text o) ≡ true
-zone-stands o h =
-    let hours = two_digits (unsigned_abs o / 3600) in
-    let minutes = two_digits (unsigned_abs o % 3600 / 60) in
-    and_from (is_allowed (if int_lt o (pos 0) then minus else plus)) (is_part (hours ++ minutes)) (sign-stands (int_lt o (pos 0)))
-    (all-append is_allowed hours minutes (pair-stands (unsigned_abs o / 3600) (omega arith)) (pair-stands (unsigned_abs o % 3600 / 60) (omega arith)))
+zone-stands o h = grind (arith, and_from, sign-stands, all-append, pair-stands)
 
 text-of : (b : Bool) (xs text : List ℕ) → cond b (Some xs) None ≡ Some text → (b ≡ true) × (xs ≡ text)
 text-of true xs text e = (refl, ap (λ o. unwrap_or o []) e)
@@ -67,17 +62,7 @@ pub record IsText (t : Time) (text : List ℕ) : Type 0 where
 
 pub text-is : (t : Time) (text : List ℕ) → FitsSigned w64 t.seconds → header_text t ≡ Some text → IsText t text
 unfolding header_text
-text-is t text f e =
-    let seconds = decimal_text t.seconds in
-    let zone = compact_offset_text t.offset in
-    let is = text-of (nat_lt (unsigned_abs t.offset) 360000) (seconds ++ (space ∷ zone)) text e in
-    let short : unsigned_abs t.offset < 360000 = grind (arith, nat_tests, is.0) in
-    record {
-      short = short;
-      whole = sym is.1;
-      stands = subst (λ s. is_part s ≡ true) is.1 (all-append is_allowed seconds (space ∷ zone) (seconds-stand t.seconds f) (zone-stands t.offset short));
-      some = subst (λ s. not (length s == 0) ≡ true) is.1 (filled seconds zone);
-    }
+text-is t text f e = grind (arith, text-of, nat_tests, all-append, seconds-stand, zone-stands, filled)
 
 -- What is due is cut so again.
 due-by : (name mail : List ℕ) (t : Time) → FitsSigned w64 t.seconds → (b : Bool) → (is_part name && is_part mail) ≡ b → (o : Option (List ℕ)) → header_text t ≡ o
@@ -99,7 +84,7 @@ written-is-cut name mail t f = due-by name mail t f (is_part name && is_part mai
 -- What writing comes to.
 pub due-is : (name mail : List ℕ) (t : Time) → is_part name ≡ true → is_part mail ≡ true
     → line_due name mail t ≡ ok_or (option_map line_of (parts_due name mail t)) OffsetTooWide
-due-is name mail t h k = ap (λ b. cond b (ok_or (option_map line_of (parts_due name mail t)) OffsetTooWide) (Err BadPart)) (and_from (is_part name) (is_part mail) h k)
+due-is name mail t h k = grind (arith, and_from)
 
 wrote-by : (due : Result (List ℕ) SignatureError) (Is : List ℕ → Type 0) (old new : StreamState) (r : Result (Unit {0}) SignatureError) → IfOk due Is → WritesLine due old new r
     → OnOk r ((line : List ℕ) × Is line × Takes old new line)

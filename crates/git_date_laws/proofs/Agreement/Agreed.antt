@@ -1,5 +1,6 @@
 -- Both readers read the same time.
-use Rattle.std.proofs.Common.{◌≡◌, ◌≢◌, ◌∙◌, ◌≤ℤ◌, ℕ, ℤ, pos, nat_lt, unsigned_abs, Bool, true, false, cond, List, Option, Some, None, Ok, IsUtf8, option_map, refl, ap, sym, subst}
+use Rattle.std.proofs.Common.{arith}
+use Rattle.std.proofs.Common.{◌≡◌, ◌≢◌, ◌≤ℤ◌, ℕ, pos, nat_lt, true, List, Option, Some, None, Ok, IsUtf8, option_map, refl, ap, sym, subst}
 use Rattle.jiff.specs.declared.zoned.Zoned.{Zoned}
 use Rattle.gix_date.proofs.Families.Disjoint.{epoch-int}
 use Rattle.gix_date.proofs.Families.Exclusive.{answered, differ, alone-first}
@@ -10,10 +11,8 @@ use Rattle.gix_date.specs.Families.Laws.{Holds}
 use Rattle.gix_date.specs.Families.Order.{Family, AtText, Rfc2822, Iso8601, Iso8601Strict, Gitoxide, Default, BareEpoch, GitForm, RelativeText, RawText, family_answer, first_family_by, ParseNoAllocOutcome}
 use Rattle.gix_date.specs.Families.Patterns.{Accepts, IsMeaning, rfc2822_layout, iso8601_layout, iso8601_strict_layout, gitoxide_layout, default_layout, date_answer, time_answer}
 use Rattle.gix_date.specs.Families.Raw.{OffsetRule, raw_time_by}
-use Rattle.gix_date.specs.Fields.Civil.{civil_instant}
 use Rattle.gix_date.specs.Fields.Layout.{LocalTime, Piece}
 use Rattle.gix_date.specs.Relative.Steps.{zone_of}
-use Rattle.gix_date.specs.Text.Front.{◌>>=◌}
 use Rattle.gix_date.specs.declared.time.Time.{Time}
 use Rattle.git_date.specs.Rules.Dates.{now_of}
 use Rattle.git_date.specs.Types.Names.{Now}
@@ -36,10 +35,7 @@ answer-is now NoInstant time a h = absurd cc
 first-is : (rule : OffsetRule) (family : Family) (text : List ℕ) (now : Option Zoned) (time : Time) → IsUtf8 text → family ≢ GitForm → family ≢ RelativeText
     → ((answer : FamilyAnswer) → family_answer rule family text ≡ Some answer → IsAbsolute answer) → Holds rule family text
     → ParseNoAllocOutcome (first_family_by rule text) now (Ok time) → family_answer rule family text ≡ Some (Absolute time)
-first-is rule family text now time u a b absolute h outcome =
-    let x = answered rule family text h in
-    let first = subst (λ (found : Option FamilyAnswer). ParseNoAllocOutcome found now (Ok time)) (alone-first rule family text u a b h ∙ x.1) outcome in
-    x.1 ∙ ap (λ (answer : FamilyAnswer). Some answer) (answer-is now x.0 time (absolute x.0 x.1) first)
+first-is rule family text now time u a b absolute h outcome = grind (arith, answered, alone-first, answer-is, absolute)
 
 -- seconds, and clocks, are times
 of-time : (found : Option Time) (answer : FamilyAnswer) → option_map Absolute found ≡ Some answer → IsAbsolute answer
@@ -52,12 +48,7 @@ absolute None t e = absurd cc
 
 of-clock : (l : LocalTime) (answer : FamilyAnswer) → time_answer l ≡ Some answer → IsAbsolute answer
 unfolding date_answer
-of-clock l answer e = by (civil_instant l.date l.clock l.offset) (nat_lt 86_340 (unsigned_abs l.offset)) e
-  where
-    by : (seconds : Option ℤ) (far : Bool) → (seconds >>= λ s. cond far (Some OffsetAboveDay) (Some (Absolute (record { seconds = s; offset = l.offset })))) ≡ Some answer → IsAbsolute answer
-    by None far e = absurd cc
-    by (Some s) true e = let same : OffsetAboveDay ≡ answer = cc in subst IsAbsolute same tt
-    by (Some s) false e = let same : Absolute (record { seconds = s; offset = l.offset }) ≡ answer = cc in subst IsAbsolute same tt
+of-clock l answer e = grind (arith, nat_lt)
 
 module _ (rule : OffsetRule) (moment : Zoned) (text : List ℕ) (u : IsUtf8 text) where
   abbrev this : Now

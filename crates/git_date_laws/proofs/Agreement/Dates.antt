@@ -1,6 +1,6 @@
 -- Formatted dates, as the exact reader reads them.
 use Rattle.std.specs.Prelude.{◌&&◌}
-use Rattle.std.proofs.Common.{◌≡◌, ◌≤◌, ◌≤ℤ◌, ℕ, pos, List, [], ◌∷◌, ◌++◌, Option, Some, None, refl, ◌∙◌, ap, sym, subst, append_assoc, inl, inr, arith, nat_le}
+use Rattle.std.proofs.Common.{◌≡◌, ◌≤◌, ◌≤ℤ◌, ℕ, pos, List, [], ◌∷◌, ◌++◌, Option, Some, None, refl, ◌∙◌, ap, sym, subst, append_assoc, arith, nat_le}
 use Rattle.gix_date.specs.Families.Answer.{Absolute}
 use Rattle.gix_date.specs.Families.Patterns.{IsMeaning, rfc2822_layout, iso8601_layout, iso8601_strict_layout, gitoxide_layout, default_layout, time_answer}
 use Rattle.gix_date.proofs.Fields.FieldsRead.{Begins, begins-append, field-begins, year-begins, name-begins}
@@ -10,7 +10,7 @@ use Rattle.std.specs.Char.{is_ascii_alphabetic, is_ascii_digit}
 use Rattle.git_date.proofs.Text.TokenRuns.{digit-first, letter-first}
 use Rattle.git_date.specs.Rules.Offsets.{at_text}
 use Rattle.git_date_laws.proofs.Agreement.Seconds.{Reads, no-fit}
-use Rattle.gix_date.specs.Text.Characters.{space, comma}
+use Rattle.gix_date.specs.Text.Characters.{space}
 use Rattle.gix_date.specs.declared.time.Time.{Time}
 use Rattle.git_date.proofs.Exact.PrintedClocks.{HasNoDigits}
 use Rattle.git_date.specs.Rules.Fields.{unknown, with_date}
@@ -175,20 +175,13 @@ word-no-at [] h = absurd h
 word-no-at (c ∷ text) h = ap at_text (letter-first c text h) ∙ letter-no-at c (tokens text)
 
 date-no-at : (text front rest : List ℕ) (date : LocalDate) → text ≡ front ++ rest → IsPlainDate front date → at_text (tokens text) ≡ None
-date-no-at text front rest date e k =
-    number-no-at text (subst (Begins is_ascii_digit) (sym (e ∙ ap (λ (x : List ℕ). x ++ rest) k.whole))
-    (begins-append is_ascii_digit _ rest (begins-append is_ascii_digit _ _ (begins-append is_ascii_digit k.year _ (year-begins k.year date.year k.is_year)))))
+date-no-at text front rest date e k = grind (arith, number-no-at, begins-append, year-begins)
 
 pub name-no-at : (text front rest : List ℕ) → text ≡ front ++ rest → AreThreeLetters front → at_text (tokens text) ≡ None
-name-no-at text front rest e h = word-no-at text (subst (Begins is_ascii_alphabetic) (sym e) (begins-append is_ascii_alphabetic front rest (name-begins front h)))
+name-no-at text front rest e h = grind (arith, word-no-at, begins-append, name-begins)
 
 mail-no-at : (l : LocalTime) (text : List ℕ) → ArePieces rfc2822_layout l text → at_text (tokens text) ≡ None
-mail-no-at l text h = elim h.is [
-  | inl e ↦
-      number-no-at text
-      (subst (Begins is_ascii_digit) (sym (h.whole ∙ ap (λ (x : List ℕ). x ++ h.rest) e ∙ h.more.whole)) (begins-append is_ascii_digit h.more.front h.more.rest (field-begins h.more.front l.date.day h.more.is)))
-  | inr k ↦ name-no-at text k.name _ (h.whole ∙ ap (λ (x : List ℕ). x ++ h.rest) k.whole ∙ append_assoc k.name (comma ∷ k.gap) h.rest) k.is_name.0
-]
+mail-no-at l text h = grind (arith, number-no-at, begins-append, field-begins, name-no-at, append_assoc)
 
 -- a layout whose texts are read so, with a year in them
 pub record IsRead (layout : List Piece) : Type 0 where

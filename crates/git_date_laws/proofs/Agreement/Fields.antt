@@ -1,5 +1,5 @@
 -- What the exact reader says of the fields of a formatted date.
-use Rattle.std.proofs.Common.{◌≡◌, ◌∙◌, ◌<◌, ◌≤◌, ◌⊎◌, inl, inr, ℕ, pos, unsigned_abs, nat_le, nat_lt, Bool, true, false, cond, List, [], ◌∷◌, ◌++◌, length, Some, refl, ap, sym, subst, arith, append_assoc}
+use Rattle.std.proofs.Common.{◌≡◌, ◌∙◌, ◌<◌, ◌≤◌, ◌⊎◌, ℕ, pos, unsigned_abs, nat_le, nat_lt, Bool, true, false, cond, List, [], ◌∷◌, ◌++◌, length, Some, refl, ap, sym, subst, arith, append_assoc}
 use Rattle.std.specs.Prelude.{◌&&◌, codes}
 use Rattle.std.specs.Char.{is_ascii_alphabetic, is_ascii_digit}
 use Rattle.std.specs.List.{list_all}
@@ -7,7 +7,7 @@ use Rattle.std.proofs.lemmas.Bool.{and_parts, eqb-true as is-byte}
 use Rattle.std.proofs.lemmas.Bool.Decides.{nat_tests}
 use Rattle.std.proofs.lemmas.Option.{cond_some as guard}
 use Rattle.jiff_core.proofs.CalendarLemmas.{days_in_month_bounds}
-use Rattle.jiff_core.specs.Calendar.{days_in_month, day_count, days_of_years, days_of_months}
+use Rattle.jiff_core.specs.Calendar.{day_count, days_of_years, days_of_months}
 use Rattle.gix_date.proofs.Fields.FieldsTaken.{went}
 use Rattle.gix_date.specs.Families.Answer.{Absolute, OffsetAboveDay}
 use Rattle.gix_date.specs.Families.Patterns.{date_answer, time_answer}
@@ -66,26 +66,7 @@ pub at-most : (a b : ℕ) → nat_le a b ≡ true → a ≤ b
 at-most a b h = grind (arith, nat_tests, h)
 
 pub fields-of : (l : LocalTime) → is_date l.date ≡ true → is_clock l.clock ≡ true → AreFields l
-fields-of l d c =
-    let days = days_in_month (pos l.date.year) l.date.month in
-    let last = and_parts (nat_le 1 l.date.month && nat_le l.date.month 12 && nat_le 1 l.date.day) (nat_le l.date.day days) d in
-    let low = and_parts (nat_le 1 l.date.month && nat_le l.date.month 12) (nat_le 1 l.date.day) last.0 in
-    let month = and_parts (nat_le 1 l.date.month) (nat_le l.date.month 12) low.0 in
-    let second = and_parts (nat_le l.clock.hour 23 && nat_le l.clock.minute 59) (nat_le l.clock.second 59) c in
-    let minute = and_parts (nat_le l.clock.hour 23) (nat_le l.clock.minute 59) second.0 in
-    let day = at-most l.date.day days last.1 in
-    let h = at-most l.clock.hour 23 minute.0 in
-    let m = at-most l.clock.minute 59 minute.1 in
-    let s = at-most l.clock.second 59 second.1 in
-    record {
-      first_month = at-most 1 l.date.month month.0;
-      last_month = at-most l.date.month 12 month.1;
-      first_day = at-most 1 l.date.day low.1;
-      last_day = omega (arith, days_in_month_bounds (pos l.date.year) l.date.month);
-      hour = omega arith;
-      minute = omega arith;
-      second = omega arith;
-    }
+fields-of l d c = grind (arith, and_parts, nat_le, at-most, days_in_month_bounds)
 
 -- a time from 1970 on has a year from 1969 on by its own clock
 pub sixty-nine : day_count (pos 1969) 1 1 ≡ 4_371_588
@@ -95,25 +76,12 @@ sixty-nine = refl
 pub field-is : (x : List ℕ) (n : ℕ) → IsField x n → IsNumber x n × (n < 100) × ((length x ≡ 1) ⊎ (length x ≡ 2))
 unfolding number
 field-is [] n h = absurd h
-field-is (a ∷ []) n h =
-    let low = digit-below a h.0 in
-    (record { some = omega arith; digits = rw h.0 refl; is = omega (arith, h.1, low) }, omega (arith, h.1, low), inl refl)
-field-is (a ∷ b ∷ []) n h =
-    let low = digit-below a h.0 in
-    let next = digit-below b h.1 in
-    (record { some = omega arith; digits = rw (h.0, h.1) refl; is = omega (arith, h.2, low, next) }, omega (arith, h.2, low, next), inr refl)
+field-is (a ∷ []) n h = grind (arith, digit-below)
+field-is (a ∷ b ∷ []) n h = grind (arith, digit-below)
 field-is (a ∷ b ∷ c ∷ more) n h = absurd h
 
 pub year-is : (x : List ℕ) (n : ℕ) → IsYear x n → IsNumber x n × (n < 10_000) × (length x ≡ 4)
-year-is (a ∷ b ∷ c ∷ d ∷ []) n h =
-    let p = h.0 in
-    let q = h.1 in
-    let r = h.2 in
-    let s = h.3 in
-    let is = h.4 in
-    let first = under a b _ p q refl in
-    let second = under c d _ r s refl in
-    (record { some = omega arith; digits = rw (p, q, r, s) refl; is = four-is a b c d p q r s ∙ sym is }, omega (arith, first, second, is), refl)
+year-is (a ∷ b ∷ c ∷ d ∷ []) n h = grind (arith, under, four-is)
 year-is x n h = absurd h
 
 pub day-text : (x : List ℕ) (n : ℕ) → IsField x n → IsDayText n x
@@ -137,15 +105,12 @@ pub record IsSpaced (ts : List Token) : Type 0 where
 
 pub spaced : (gap rest : List ℕ) → AreSpaces gap → IsSpaced (tokens (gap ++ rest))
 spaced [] rest h = absurd h
-spaced (c ∷ gap) rest h =
-    let same = is-byte c space h.0 in
-    record { more = tokens (gap ++ rest); is = ap (λ (b : ℕ). tokens (b ∷ (gap ++ rest))) same ∙ mark-first space (gap ++ rest) refl refl }
+spaced (c ∷ gap) rest h = grind (arith, is-byte, mark-first)
 
 -- three numbers with a mark between them
 pub three-first : (mark : ℕ) (a b c rest : List ℕ) (x y z : ℕ) (ts : List Token) → is_ascii_alphabetic mark ≡ false → is_ascii_digit mark ≡ false → IsNumber a x → IsNumber b y → IsNumber c z
     → tokens rest ≡ ts → HasNoDigits ts → tokens (((a ++ (mark ∷ b)) ++ (mark ∷ c)) ++ rest) ≡ Digits a ∷ Mark mark ∷ Digits b ∷ Mark mark ∷ Digits c ∷ ts
-three-first mark a b c rest x y z ts no_letter no_digit p q r e free =
-    ap tokens (append_assoc (a ++ (mark ∷ b)) (mark ∷ c) rest ∙ append_assoc a (mark ∷ b) (mark ∷ (c ++ rest))) ∙ three-numbers mark a b c rest x y z ts no_letter no_digit p q r e free
+three-first mark a b c rest x y z ts no_letter no_digit p q r e free = grind (arith, append_assoc, three-numbers)
 
 -- no second 60 in a part of a text without
 pub free-rest : (text front rest : List ℕ) → HasNoLeapSecond text → text ≡ front ++ rest → HasNoLeapSecond rest

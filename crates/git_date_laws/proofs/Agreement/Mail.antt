@@ -1,7 +1,7 @@
 -- The dates of mail, as the exact reader reads them: the name of the day, the second and the offset's digits may be missing.
 use Rattle.std.proofs.Common.{◌≡◌, ◌∙◌, ◌<◌, ◌≤◌, inl, inr, ℕ, ℤ, pos, neg_ℤ, ◌*ℤ◌, nat_lt, Bool, true, false, cond, List, [], ◌∷◌, ◌++◌, Option, Some, None, Ok, refl, ap, sym, subst, arith, append_assoc, append-nil}
 use Rattle.std.specs.Prelude.{codes}
-use Rattle.std.specs.Option.{is_some, option_map_or}
+use Rattle.std.specs.Option.{is_some}
 use Rattle.std.specs.Str.{str_to_ascii_lowercase}
 use Rattle.std.proofs.lemmas.Bool.Decides.{nat_tests}
 use Rattle.std.proofs.lemmas.Option.{cond_some as guard}
@@ -20,13 +20,13 @@ use Rattle.git_date.proofs.Exact.PrintedClocks.{at, small-rule, taken-rule, afte
 use Rattle.git_date.proofs.Text.TokenRuns.{mark-first}
 use Rattle.git_date.specs.Types.DatedCases.{Taken}
 use Rattle.git_date.specs.Rules.Dates.{exact_seconds}
-use Rattle.git_date.specs.Rules.Digits.{grouped, group_said}
-use Rattle.git_date.specs.Rules.Fields.{unknown, knows_date}
-use Rattle.git_date.specs.Rules.Groups.{ReadTokens, number_at, marked_number, group_of, group_rule, large_in}
+use Rattle.git_date.specs.Rules.Digits.{group_said}
+use Rattle.git_date.specs.Rules.Fields.{unknown}
+use Rattle.git_date.specs.Rules.Groups.{number_at, marked_number, group_of, group_rule, large_in}
 use Rattle.git_date.specs.Tokens.Names.{is_weekday, zone_named}
 use Rattle.git_date.specs.Tokens.Numbers.{number}
-use Rattle.git_date.specs.Exact.Reading.{ended, rule}
-use Rattle.git_date.specs.Tokens.Tokens.{Token, Letters, Digits, Mark, tokens, bytes_left}
+use Rattle.git_date.specs.Exact.Reading.{rule}
+use Rattle.git_date.specs.Tokens.Tokens.{Token, Letters, Digits, Mark, tokens}
 use Rattle.git_date.specs.Types.Names.{Fields, Group, Now, Number}
 use Rattle.git_date.specs.Rules.Words.{with_word, letters_rule, without_ending}
 use Rattle.git_date_laws.proofs.Alike.Texts.{lowered, tokens-lower, in_lower_case}
@@ -55,30 +55,13 @@ pair-clock now g h m left a b = rw (clock-taken g h m 0 a b (omega arith)) refl
 pair-rule : (now : Now) (g : Fields) (a b : List ℕ) (h m : ℕ) (more : List Token) → number a ≡ h → number b ≡ m → h < 24 → m < 60
     → rule now g (Digits a) (Mark colon ∷ Digits b ∷ Mark space ∷ more) ≡ Ok (Some (record g { hour = Some h; minute = Some m; second = Some 0 }), Mark space ∷ more)
 unfolding without_ending group_said
-pair-rule now g a b h m more hh mm low high =
-    let last = Mark space ∷ more in
-    let mid = Mark colon ∷ Digits b ∷ last in
-    let second = number_at b last in
-    let left = bytes_left (Digits a ∷ mid) in
-    let said = λ (pair : Group). or_bare g a mid (grouped left pair last (group_rule now g pair)) in
-    let next : Fields = record g { hour = Some h; minute = Some m; second = Some 0 } in
-    let pair = pair_at h (numbered m second.left) in
-    ap ended (small-rule now g a mid (omega arith)
-    ∙ ap (λ (found : ReadTokens Group). or_bare g a mid (option_map_or (λ found. grouped left found.0 found.1 (group_rule now g found.0)) found (Ok None))) (two-of (number a) b more)
-    ∙ ap (λ (n : ℕ). said (pair_at n second)) hh
-    ∙ ap (λ (n : ℕ). said (pair_at h (numbered n second.left))) mm
-    ∙ ap (or_bare g a mid) (taken-rule left pair last _ next (pair-small h (numbered m second.left) high) (pair-clock now g h m second.left low high))
-    ∙ ap (λ (rest : List Token). Ok (Some next, rest)) (after-clock space more (knows_date next) refl))
+pair-rule now g a b h m more hh mm low high = grind (arith, or_bare, numbered, small-rule, two-of, taken-rule, pair-small, pair-clock, after-clock)
 
 -- a zone's name, in any letter case
 lowered-one : (ts : List Token) (word : List ℕ) → lowered ts ≡ Letters word ∷ [] → (run : List ℕ) × (ts ≡ Letters run ∷ []) × (str_to_ascii_lowercase run ≡ word)
 lowered-one [] word e = absurd cc
 lowered-one (Letters run ∷ []) word e = (run, refl, cc)
-lowered-one (Letters run ∷ t ∷ more) word e = absurd (none t more (let rest : lowered (t ∷ more) ≡ [] = cc in rest))
-  where
-    none : (t : Token) (more : List Token) → lowered (t ∷ more) ≡ [] → ⊥
-    none (Letters run) more e = cc
-    none x more e = cc
+lowered-one (Letters run ∷ t ∷ more) word e = grind (arith, lowered)
 lowered-one (Digits run ∷ more) word e = absurd cc
 lowered-one (Mark byte ∷ more) word e = absurd cc
 

@@ -58,20 +58,9 @@ pub record IsSigned (x : List ℕ) : Type 0 where
 
 int-by : (c : ℕ) (t : List ℕ) (n : ℤ) (p q : Bool) → (c == minus) ≡ p → (c == plus) ≡ q → nat_lt 0 (length (without_leading_sign (c ∷ t))) ≡ true
     → all_ascii_digits (without_leading_sign (c ∷ t)) ≡ true → fits_i64 (signed_digits_value 10 (c ∷ t)) ≡ true → signed_digits_value 10 (c ∷ t) ≡ n → IsBare (c ∷ t) n ⊎ IsSigned (c ∷ t)
-int-by c t n true q e f some digits fits value =
-    let long = rw e at some in
-    let are = rw e at digits in
-    inr (record { behind = true; run = t; whole = ap (λ (k : ℕ). k ∷ t) (is-mark c minus e); some = grind (arith, nat_tests, long); digits = are })
-int-by c t n false true e f some digits fits value =
-    let long = rw (e, f) at some in
-    let are = rw (e, f) at digits in
-    inr (record { behind = false; run = t; whole = ap (λ (k : ℕ). k ∷ t) (is-mark c plus f); some = grind (arith, nat_tests, long); digits = are })
-int-by c t n false false e f some digits fits value =
-    let are = rw (e, f) at digits in
-    let is = rw (e, f) at value in
-    let small = rw (e, f) at fits in
-    let short : digits_value 10 (c ∷ t) < 2 ^ 63 = grind (arith, nat_tests, small) in
-    inl (record { some = omega arith; digits = are; is = sym is ∙ ap pos (sym (number-is (c ∷ t) are short)) })
+int-by c t n true q e f some digits fits value = grind (arith, is-mark, nat_tests)
+int-by c t n false true e f some digits fits value = grind (arith, is-mark, nat_tests)
+int-by c t n false false e f some digits fits value = grind (arith, nat_tests, number-is)
 
 pub int-is : (x : List ℕ) (n : ℤ) → int_value x ≡ Some n → IsBare x n ⊎ IsSigned x
 int-is [] n e = let none = (int-taken [] n e).0 in absurd cc

@@ -57,22 +57,11 @@ all_of l = record {
 sixty : (x : List ℕ) → IsField x 60 → x ≡ codes "60"
 sixty [] h = absurd h
 sixty (a ∷ []) h = absurd (omega (arith, h.1, digit-below a h.0))
-sixty (a ∷ b ∷ []) h =
-    let low : 48 ≤ b = grind (arith, nat_tests, h.1) in
-    let first : a ≡ 54 = omega (arith, h.2, digit-below a h.0, digit-below b h.1) in
-    let second : b ≡ 48 = omega (arith, h.2, digit-below a h.0, digit-below b h.1) in
-    λ i. first i ∷ second i ∷ []
+sixty (a ∷ b ∷ []) h = grind (arith, nat_tests, digit-below)
 sixty (a ∷ b ∷ c ∷ x) h = absurd h
 
 second-is : (text before second after : List ℕ) (n m : ℕ) → HasNoLeapSecond text → text ≡ before ++ (colon ∷ (second ++ after)) → IsField second n → m ≡ without_leap_second n → n ≡ m
-second-is text before second after n m free e h is = by (n == 60) refl is
-  where
-    by : (b : Bool) → (n == 60) ≡ b → m ≡ cond b 59 n → n ≡ m
-    by true t is =
-        let whole : n ≡ 60 = grind (arith, nat_tests, t) in
-        let written = sixty second (subst (IsField second) whole h) in
-        absurd (free before after (e ∙ ap (λ (x : List ℕ). before ++ (colon ∷ (x ++ after))) written))
-    by false t is = sym is
+second-is text before second after n m free e h is = grind (arith, nat_tests, sixty)
 
 -- three letters tell the month that they name, and the day of the week
 month-told : (x : List ℕ) → AreThreeLetters x → month_told x ≡ month_named x
@@ -91,7 +80,7 @@ pair-is a b n p q e = let x = field-is (a ∷ b ∷ []) n (p, q, e) in (x.0, x.1
 last-free : (last : List ℕ) (seconds : Option ℕ) → AreLastSeconds last seconds → HasNoDigits (tokens last)
 unfolding tokens
 last-free last seconds (inl p) = subst (λ (x : List ℕ). HasNoDigits (tokens x)) (sym p.0) tt
-last-free last seconds (inr p) = subst (λ (x : List ℕ). HasNoDigits (tokens x)) (sym p.2) (subst HasNoDigits (sym (mark-first colon (p.0 ∷ p.1 ∷ []) refl refl)) tt)
+last-free last seconds (inr p) = grind (arith, mark-first)
 
 module _ (now : Now) (t : Time) where
   colon-step : (g : Fields) (behind : Bool) (a b c d hours minutes : ℕ) (ts : List Token) → number (a ∷ b ∷ []) ≡ hours → number (c ∷ d ∷ []) ≡ minutes → hours < 100 → minutes < 100

@@ -1,7 +1,6 @@
 -- Raw texts, at texts and bare epochs: what the exact reader says of their seconds and offset.
-use Rattle.std.proofs.Common.{◌≡◌, ◌∙◌, ◌+◌, ◌*◌, ◌/◌, ◌%◌, ◌⊎◌, inl, inr, ℕ, ℤ, pos, neg_ℤ, ◌*ℤ◌, nat_lt, Bool, true, false, cond, List, [], ◌∷◌, ◌++◌, Option, Some, None, IsUtf8, Ok, refl, ap, sym, subst, arith, append-nil}
+use Rattle.std.proofs.Common.{◌≡◌, ◌∙◌, ◌⊎◌, inl, inr, ℕ, ℤ, pos, neg_ℤ, ◌*ℤ◌, nat_lt, Bool, true, false, cond, List, [], ◌∷◌, ◌++◌, Option, Some, None, IsUtf8, Ok, refl, ap, sym, subst, arith, append-nil}
 use Rattle.std.specs.Prelude.{◌==◌, option_map}
-use Rattle.std.specs.Option.{option_or}
 use Rattle.std.proofs.lemmas.Bool.Decides.{nat_tests}
 use Rattle.std.proofs.lemmas.Str.{IsUtf8-drop, IsCharBoundary-after_ascii}
 use Rattle.jiff_core.proofs.SignedLemmas.{signed_arith}
@@ -9,14 +8,14 @@ use Rattle.gix_date.proofs.Families.Disjoint.{RawWords, raw-words}
 use Rattle.gix_date.proofs.Fast.FastHeaders.{IsOffsetText, offset-taken}
 use Rattle.gix_date.proofs.Fields.FieldsTaken.{went, first-or, after-taken}
 use Rattle.gix_date.proofs.Fields.Instants.{instant_holds}
-use Rattle.gix_date.specs.Families.Epoch.{at_time, utc_time}
+use Rattle.gix_date.specs.Families.Epoch.{at_time}
 use Rattle.gix_date.specs.Families.Patterns.{midnight}
 use Rattle.gix_date.specs.Families.Raw.{OffsetRule, raw_time_by}
 use Rattle.gix_date.specs.Fields.Civil.{civil_seconds}
 use Rattle.gix_date.specs.Fields.Offsets.{SignedPairs}
 use Rattle.gix_date.specs.Fields.Zoned.{is_instant}
 use Rattle.gix_date.specs.Text.Characters.{at_sign, plus, minus, space}
-use Rattle.gix_date.specs.Text.Front.{skip_char, ◌>>=◌}
+use Rattle.gix_date.specs.Text.Front.{◌>>=◌}
 use Rattle.gix_date.specs.Text.Numbers.{int_value}
 use Rattle.gix_date.specs.declared.time.Time.{Time}
 use Rattle.git_date.proofs.Rules.ClocksBack.{shown_of, clock-is}
@@ -28,7 +27,7 @@ use Rattle.git_date.specs.Rules.Dates.{exact_seconds, is_month, month_start, fir
 use Rattle.git_date.specs.Rules.Digits.{with_epoch}
 use Rattle.git_date.specs.Rules.Fields.{unknown}
 use Rattle.git_date.specs.Tokens.Numbers.{number}
-use Rattle.git_date.specs.Rules.Offsets.{at_text, ends, padded_number, signed_minutes, wide_minutes, white, without_white}
+use Rattle.git_date.specs.Rules.Offsets.{at_text, padded_number, wide_minutes, white, without_white}
 use Rattle.git_date.specs.Tokens.Tokens.{Token, Digits, Mark, tokens}
 use Rattle.git_date.specs.Types.Names.{Fields, Now}
 use Rattle.git_date_laws.proofs.Agreement.Answers.{FitsAt}
@@ -39,7 +38,7 @@ use Rattle.git_date_laws.proofs.Agreement.Words.{AreTwo, two-words}
 -- fields without a year or a minute come to no seconds
 no-seconds : (f : Fields) → IsPartial f → exact_seconds f ≡ None
 unfolding exact_seconds
-no-seconds f p = unsaid f.year f.month f.hour f.minute (λ year month hour minute. f.second >>= λ second. month_start year month >>= λ start. Some (seconds_after start f.day hour minute second)) p
+no-seconds f p = grind (arith, unsaid)
 
 -- an epoch comes to its own seconds
 pub from-month : (b : Bool) (start s : ℤ) (next : ℤ → ℤ) → (cond b (Some start) None >>= λ x. Some (next x)) ≡ Some s → next start ≡ s
@@ -63,12 +62,7 @@ not-at c ts h = refl
 no-at-in : (x rest : List ℕ) (n : ℤ) → IsBare x n ⊎ IsSigned x → HasNoDigits (tokens rest) → at_text (tokens (x ++ rest)) ≡ None
 unfolding at_text
 no-at-in x rest n (inl b) free = ap at_text (run-before x rest (tokens rest) b.some b.digits refl free)
-no-at-in x rest n (inr s) free =
-    ap (λ (x : List ℕ). at_text (tokens (x ++ rest))) s.whole ∙ ap at_text (sign-before s.behind (s.run ++ rest)) ∙ not-at (cond s.behind minus plus) (tokens (s.run ++ rest)) (no-sign s.behind)
-  where
-    no-sign : (behind : Bool) → (cond behind minus plus == at_sign) ≡ false
-    no-sign true = refl
-    no-sign false = refl
+no-at-in x rest n (inr s) free = grind (arith, sign-before, not-at)
 
 pub no-fit : (t : Time) (found : Option (ℕ × ℤ)) → found ≡ None → FitsAt t found
 no-fit t found e = subst (FitsAt t) (sym e) tt
@@ -128,22 +122,7 @@ wide-fits : (now : Now) (t : Time) (n : ℕ) (behind : Bool) (fields : SignedPai
     → (fields.seconds ≡ None → t.offset ≡ pos 60 *ℤ cond behind (neg_ℤ (minutes_at fields)) (minutes_at fields))
     → FitsAt t (option_map (λ minutes. (n, minutes)) (padded_number ts >>= λ found. wide_minutes behind found.0 found.1))
 unfolding padded_number white without_white
-wide-fits now t n behind fields ts more r e o =
-    subst (λ (ts : List Token). FitsAt t (option_map (λ minutes. (n, minutes)) (padded_number ts >>= λ found. wide_minutes behind found.0 found.1))) (sym r.whole) (elim r.is [
-      | inl p ↦
-          let small : nat_lt (number r.run) 10_000 ≡ true = grind (arith, nat_tests) in
-          let a : number r.run / 100 ≡ fields.hours = omega arith in
-          let b : number r.run % 100 ≡ fields.minutes = omega arith in
-          let whole : pos (60 * fields.hours + fields.minutes) ≡ minutes_at fields = omega (arith, signed_arith) in
-          rw (p.0, small, a, b)
-          (either (λ (found : Option ℤ). FitsAt t (option_map (λ minutes. (n, minutes)) found)) (ends more) _ _
-          (λ i. record { seconds = e i; offset = (o p.4 ∙ ap (λ (k : ℤ). pos 60 *ℤ cond behind (neg_ℤ k) k) (sym whole) ∙ by-sign behind (60 * fields.hours + fields.minutes)) i }) tt)
-      | inr p ↦ let long = p.0 in rw long tt
-    ])
-  where
-    by-sign : (behind : Bool) (k : ℕ) → pos 60 *ℤ cond behind (neg_ℤ (pos k)) (pos k) ≡ pos 60 *ℤ signed_minutes behind k
-    by-sign true k = refl
-    by-sign false k = refl
+wide-fits now t n behind fields ts more r e o = grind (arith, nat_lt, nat_tests, minutes_at, signed_arith, either)
 
 module _ (now : Now) (t : Time) (rule : OffsetRule) (text : List ℕ) (r : RawWords rule text t) (two : AreTwo text r.front r.zone) (n : ℕ) (seconds : t.seconds ≡ pos n) where
   abbrev zone : IsOffsetText r.zone r.fields
@@ -215,23 +194,14 @@ int-reads now text t n e =
 at-parts : (rule : OffsetRule) (text : List ℕ) (t : Time) → at_time rule text ≡ Some t
     → (rest : List ℕ) × (text ≡ at_sign ∷ rest) × ((raw_time_by rule rest ≡ Some t) ⊎ ((n : ℤ) × (int_value rest ≡ Some n)))
 unfolding at_time
-at-parts rule text t e =
-    let rest = went (skip_char at_sign text) (λ rest. option_or (raw_time_by rule rest) (option_map utc_time (int_value rest))) t e in (
-      rest.0,
-      after-taken at_sign text rest.0 rest.1,
-      elim (first-or (raw_time_by rule rest.0) (option_map utc_time (int_value rest.0)) t rest.2) [
-        | inl h ↦ inl h
-        | inr h ↦ let n = went (int_value rest.0) (λ n. Some (utc_time n)) t h in inr (n.0, n.1)
-      ],
-    )
+at-parts rule text t e = grind (arith, went, after-taken, first-or)
 
 at-int-fits : (t : Time) (x : List ℕ) (n : ℤ) → IsBare x n ⊎ IsSigned x → FitsAt t (at_text (tokens (at_sign ∷ x)))
 unfolding at_text tokens
 at-int-fits t x n (inl b) =
     let whole : tokens x ≡ Digits x ∷ [] = ap tokens (sym (append-nil x)) ∙ run-before x [] [] b.some b.digits refl tt in
     subst (λ (ts : List Token). FitsAt t (at_text ts)) (sym (mark-first at_sign x refl refl ∙ ap (λ (ts : List Token). Mark at_sign ∷ ts) whole)) tt
-at-int-fits t x n (inr s) =
-    subst (λ (ts : List Token). FitsAt t (at_text ts)) (sym (ap (λ (x : List ℕ). tokens (at_sign ∷ x)) s.whole ∙ mark-first at_sign (cond s.behind minus plus ∷ s.run) refl refl ∙ ap (λ (ts : List Token). Mark at_sign ∷ ts) (sign-before s.behind s.run))) tt
+at-int-fits t x n (inr s) = grind (arith, mark-first, sign-before)
 
 after-at : (now : Now) (t : Time) (rest : List ℕ) → Goes now t unknown (tokens rest) → Goes now t unknown (tokens (at_sign ∷ rest))
 after-at now t rest h = subst (Goes now t unknown) (sym (mark-first at_sign rest refl refl)) (goes now t unknown (Mark at_sign) (tokens rest) (λ end. no-offset now t unknown refl) h)

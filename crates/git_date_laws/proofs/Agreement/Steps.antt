@@ -1,13 +1,13 @@
 -- Steps of the exact reader over a text whose time is known: where it reads a time with an offset and ignores nothing, it
 -- reads that time.
 use Rattle.std.proofs.Common.{◌≡◌, ◌∙◌, ◌<◌, ◌≤◌, ◌+◌, ◌*◌, ◌/◌, ◌%◌, ◌-◌, ◌⊎◌, ℕ, zero, suc, ℤ, pos, neg_ℤ, ◌+ℤ◌, ◌-ℤ◌, ◌*ℤ◌, Bool, true, false, cond, List, [], ◌∷◌, ◌++◌, length, Option, Some, None, is_none, Result, Ok, Err, refl, ap, sym, subst, arith, inl, inr, append-nil, negsuc}
-use Rattle.std.specs.Prelude.{◌==◌, ◌||◌, ◌&&◌, nat_lt, unwrap_or, option_map}
+use Rattle.std.specs.Prelude.{◌==◌, ◌||◌, ◌&&◌, nat_lt, option_map}
 use Rattle.std.specs.Char.{is_ascii_alphabetic, is_ascii_digit}
 use Rattle.std.proofs.lemmas.Bool.Decides.{nat_tests}
 use Rattle.jiff_core.proofs.SignedLemmas.{signed_arith}
 use Rattle.gix_date.proofs.Fast.FastHeaders.{IsOffsetText}
 use Rattle.gix_date.specs.Fields.FieldTexts.{IsDigit, IsPair, IsSign}
-use Rattle.gix_date.specs.Fields.Offsets.{SignedPairs, OffsetSign, signed, offset_of}
+use Rattle.gix_date.specs.Fields.Offsets.{SignedPairs, offset_of}
 use Rattle.gix_date.specs.Text.Characters.{plus, minus, colon, at_sign}
 use Rattle.gix_date.specs.declared.time.Time.{Time}
 use Rattle.git_date.specs.Rules.Dates.{exact_seconds}
@@ -74,7 +74,7 @@ four-is a b c d p q r s = omega (arith, digit-below a p, digit-below b q, digit-
 
 six-is : (a b c d x y : ℕ) → IsDigit a → IsDigit b → IsDigit c → IsDigit d → IsDigit x → IsDigit y → number (a ∷ b ∷ c ∷ d ∷ x ∷ y ∷ []) < 1_000_000
 unfolding number
-six-is a b c d x y p q r s u v = omega (arith, digit-below a p, digit-below b q, digit-below c r, digit-below d s, digit-below x u, digit-below y v)
+six-is a b c d x y p q r s u v = grind (arith, digit-below)
 
 pub under : (a b n : ℕ) → IsDigit a → IsDigit b → n ≡ 10 * (a - 48) + (b - 48) → n < 100
 under a b n p q e = omega (arith, digit-below a p, digit-below b q)
@@ -89,12 +89,7 @@ pub record HasSign (mark : ℕ) (fields : SignedPairs) : Type 0 where
   pub minutes : fields.seconds ≡ None → offset_of fields ≡ pos 60 *ℤ cond behind (neg_ℤ (minutes_at fields)) (minutes_at fields)
 
 pub has-sign : (mark : ℕ) (fields : SignedPairs) → IsSign mark fields.sign → HasSign mark fields
-has-sign mark fields h =
-    let by_sign : OffsetSign → ℤ = λ sign. signed sign (3600 * fields.hours + 60 * fields.minutes + unwrap_or fields.seconds 0) in
-    elim h [
-      | inl p ↦ record { behind = false; is = p.0; minutes = λ none. ap by_sign p.1 ∙ rw none (omega (arith, signed_arith)) }
-      | inr p ↦ record { behind = true; is = p.0; minutes = λ none. ap by_sign p.1 ∙ rw none (omega (arith, signed_arith)) }
-    ]
+has-sign mark fields h = grind (arith, signed_arith)
 
 ends-quiet : (w : List ℕ) → AreQuiet w → Ends (tokens w)
 unfolding tokens

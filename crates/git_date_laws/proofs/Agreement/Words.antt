@@ -13,24 +13,10 @@ use Rattle.git_date_laws.proofs.Agreement.Steps.{IsQuiet, AreQuiet}
 
 -- white space is marks that no rule uses
 ascii-quiet : (c : ℕ) → c < 128 → is_whitespace c ≡ true → IsQuiet c
-ascii-quiet c l h = record {
-  no_letter = grind (arith, nat_tests, h);
-  no_digit = grind (arith, nat_tests, h);
-  no_plus = grind (arith, nat_tests, h);
-  no_minus = grind (arith, nat_tests, h);
-  no_colon = grind (arith, nat_tests, h);
-  no_at = grind (arith, nat_tests, h);
-}
+ascii-quiet c l h = grind (arith, nat_tests)
 
 wide-quiet : (c : ℕ) → 128 ≤ c → IsQuiet c
-wide-quiet c l = record {
-  no_letter = grind (arith, nat_tests);
-  no_digit = grind (arith, nat_tests);
-  no_plus = grind (arith, nat_tests);
-  no_minus = grind (arith, nat_tests);
-  no_colon = grind (arith, nat_tests);
-  no_at = grind (arith, nat_tests);
-}
+wide-quiet c l = grind (arith, nat_tests)
 
 byte-quiet : (c k : ℕ) → is_whitespace c ≡ true → k < length (encode_utf8 c) → IsQuiet (get_or (encode_utf8 c) k 0)
 byte-quiet c k w l =
@@ -144,8 +130,7 @@ two-runs ws a b e = absurd cc
 
 gap-first : (x gap rest : List ℕ) (a b before : List ℕ) → 1 ≤ length gap → AreQuiet before → AreQuiet gap → AreQuiet rest → x ≡ before ++ (a ++ (gap ++ (b ++ rest))) → AreTwo x a b
 gap-first x [] rest a b before some q r s e = absurd (omega (arith, some))
-gap-first x (c ∷ gap) rest a b before some q r s e =
-    record { before = before; first = c; between = gap; after = rest; whole = e; quiet_before = q; quiet_between = r; quiet_after = s }
+gap-first x (c ∷ gap) rest a b before some q r s e = grind (arith)
 
 second : (text a b x y : List ℕ) (cs : List ℕ) → encode_utf8_all x ≡ a → encode_utf8_all y ≡ b → encode_utf8_all cs ≡ text → (f : IsCut cs x (y ∷ [])) → AreTwo text a b
 second text a b x y cs e g u f = by f.rest f.stop f.whole f.is

@@ -1,22 +1,20 @@
 -- Letter case changes nothing of what the approximate reader makes of a text.
-use Rattle.std.proofs.Common.{◌≡◌, ◌∙◌, ◌-◌, ℕ, zero, suc, pos, Bool, cond, List, [], ◌∷◌, length, refl, ap, ap₂, arith, option_map, Option, Some, None, Result, Ok, Err}
+use Rattle.std.proofs.Common.{◌≡◌, ◌∙◌, ◌-◌, ℕ, zero, suc, Bool, cond, List, [], ◌∷◌, length, refl, ap, ap₂, arith, Option, Some, None, Result, Ok, Err}
 use Rattle.std.proofs.lemmas.List.{length-map}
 use Rattle.std.specs.Char.{to_ascii_lowercase}
-use Rattle.std.specs.Int.Signed.{le_z}
 use Rattle.std.specs.Str.{str_to_ascii_lowercase}
 use Rattle.gix_date.specs.Fields.Layout.{LocalTime}
 use Rattle.gix_date.specs.declared.time.Time.{Time}
-use Rattle.git_date.specs.Approximate.Reading.{Read, steps, draft_of, answer, answer_of, guess_by, string_guess, answer_up_to, guess}
+use Rattle.git_date.specs.Approximate.Reading.{Read, steps, draft_of, answer, answer_of, guess_by, string_guess, guess}
 use Rattle.git_date.specs.Approximate.Drafts.{first_draft, ignore, settle}
 use Rattle.git_date.specs.Approximate.Rules.{Ruled, word_by, read_word, are_digits_next, letters_rule, number_waits, group_or_number, digits_rule, understood}
 use Rattle.git_date.specs.Approximate.Words.{meaning_of}
-use Rattle.git_date.specs.Approximate.Zones.{shown_in, filled_time}
+use Rattle.git_date.specs.Approximate.Zones.{shown_in}
 use Rattle.git_date.specs.Exact.Zones.{States}
 use Rattle.git_date.specs.Exact.Reading.{ended, error_of}
 use Rattle.git_date.specs.Rules.Digits.{group_said}
 use Rattle.git_date.specs.Tokens.Numbers.{number, is_too_large}
 use Rattle.git_date.specs.Tokens.Steps.{and_then}
-use Rattle.git_date.specs.Tokens.Strings.{before_nul, nul_place}
 use Rattle.git_date.specs.Tokens.Tokens.{Token, Letters, Digits, Mark, tokens, bytes_left, walked}
 use Rattle.git_date.specs.Types.FaultCases.{NumberTooLarge, BackTooFar, YearRefused, Range}
 use Rattle.git_date.specs.Types.Names.{Today, Draft, Now, Fault, ZoneClock}
@@ -116,9 +114,7 @@ module _ (spell : List ℕ → List ℕ) (same : IsSpelling spell) where
 -- what a text of the same length comes to
 answer-same : (text other : List ℕ) (d : Draft) (time : Option Time) → length other ≡ length text → answer other d time ≡ answer text d time
 answer-same text other d None long = refl
-answer-same text other d (Some time) long =
-    λ i. cond (le_z (pos 0) time.seconds)
-    (Ok (record { time = time; understood = d.understood; ignored = option_map (λ left. long i - left) d.ignored })) (Err error.Range)
+answer-same text other d (Some time) long = grind (arith)
 
 error-same : (text other : List ℕ) (e : Fault) → length other ≡ length text → error_of other e ≡ error_of text e
 error-same text other (NumberTooLarge left) long = λ i. error.NumberTooLarge (long i - left)
@@ -128,7 +124,7 @@ error-same text other Range long = refl
 
 answer-of-same : (zone : States) (today : Today) (text other : List ℕ) (given : Result Draft Fault) → length other ≡ length text
     → answer_of zone today other given ≡ answer_of zone today text given
-answer-of-same zone today text other (Ok d) long = answer-same text other (settle d) (filled_time zone today.shown.clock (settle d).last (settle d).fields) long
+answer-of-same zone today text other (Ok d) long = grind (arith, answer-same)
 answer-of-same zone today text other (Err e) long = ap (λ (e : DateError). Err e) (error-same text other e long)
 
 abbrev pub lower : List ℕ → List ℕ
@@ -145,10 +141,7 @@ draft-lower zone today text =
 
 guess-by-lower : (zone : States) (now : Now) (text : List ℕ) (shown : Option ZoneClock) → guess_by zone now (lower text) shown ≡ guess_by zone now text shown
 guess-by-lower zone now text None = refl
-guess-by-lower zone now text (Some shown) =
-    let today : Today = record { now = now; shown = shown } in
-    ap (answer_of zone today (lower text)) (draft-lower zone today text)
-    ∙ answer-of-same zone today text (lower text) (draft_of zone today text) (lower-length text)
+guess-by-lower zone now text (Some shown) = grind (arith, draft-lower, answer-of-same, lower-length)
 
 string-guess-lower : (zone : States) (now : Now) (text : List ℕ) → string_guess zone now (lower text) ≡ string_guess zone now text
 unfolding string_guess
@@ -156,6 +149,4 @@ string-guess-lower zone now text = guess-by-lower zone now text (shown_in zone n
 
 pub guess-lower : (zone : States) (now : Now) (text : List ℕ) → guess zone now (lower text) ≡ guess zone now text
 unfolding guess
-guess-lower zone now text =
-    (λ i. answer_up_to (place-lower text i) (string_guess zone now (before-lower text i)))
-    ∙ ap (answer_up_to (nul_place text)) (string-guess-lower zone now (before_nul text))
+guess-lower zone now text = grind (arith, place-lower, before-lower, string-guess-lower)

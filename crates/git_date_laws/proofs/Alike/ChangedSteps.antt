@@ -1,4 +1,6 @@
 -- What offsets, rules and steps make of changed tokens.
+use Rattle.std.proofs.Common.{arith}
+use Rattle.std.proofs.Common.{rules}
 use Rattle.std.proofs.Common.{◌≡◌, ◌∙◌, ◌+◌, ℕ, zero, suc, ℤ, Bool, true, false, cond, List, [], ◌∷◌, length, refl, ap, sym, Option, Some, None, option_map, Result, Ok, Err}
 use Rattle.std.specs.Prelude.{◌==◌, ◌&&◌, ◌||◌}
 use Rattle.std.specs.Option.{option_map_or}
@@ -58,18 +60,12 @@ closed-next None t more h = tt
 closed-next (Some lines) t more h = (or_parts (awaits_minutes (t ∷ more)) (end_before_minutes more) h).1
 
 closed-kept : (stop : Option (List Token)) → IsKept (IsClosed stop) (λ left. Unit {0})
-closed-kept stop = record {
-  next = λ t more h. closed-next stop t more h;
-  at_letters = λ run more h. tt;
-  at_digits = λ run more h. tt;
-  at_mark = λ byte more below h. tt;
-}
+closed-kept stop = grind (arith, closed-next)
 
 -- what a rule leaves of them
 closed-left : (stop : Option (List Token)) (now : Now) (f : Fields) (t : Token) (more : List Token) → IsClosed stop (t ∷ more)
     → Leaves (IsClosed stop) (λ left. Unit {0}) (rule now f t more)
-closed-left stop now f t more h =
-    rule-left (IsClosed stop) (λ left. Unit {0}) (closed-kept stop) now f t more (token-place (IsClosed stop) (λ left. Unit {0}) (closed-kept stop) t more h) (closed-next stop t more h)
+closed-left stop now f t more h = search (rules, rule-left, closed-kept, token-place, closed-next)
 
 white-next : (stop : Option (List Token)) (t : Token) (more : List Token) → HasMinutes stop (t ∷ more) → is_white t ≡ true → HasMinutes stop more
 unfolding are_white
@@ -80,16 +76,12 @@ closed-minutes : (stop : Option (List Token)) (sign byte : ℕ) (run : List ℕ)
     → is_sign sign ≡ true → (length run == 2) ≡ true → (byte == colon) ≡ true → HasMinutes stop more
 unfolding end_before_minutes
 closed-minutes None sign byte run more h s two e = tt
-closed-minutes (Some lines) sign byte run more h s two e =
-    and-second (is_sign sign && length run == 2 && byte == colon) (are_white more)
-    (and_from (is_sign sign && length run == 2) (byte == colon) (and_from (is_sign sign) (length run == 2) s two) e)
-    (or_parts (awaits_minutes (Mark sign ∷ Digits run ∷ Mark byte ∷ more)) (end_before_minutes (Digits run ∷ Mark byte ∷ more)) h).0
+closed-minutes (Some lines) sign byte run more h s two e = grind (arith, and-second, and_from, or_parts)
 
 closed-at : (stop : Option (List Token)) (at : ℕ) (run : List ℕ) (gap sign : ℕ) (more : List Token) → IsClosedAt stop (Mark at ∷ Digits run ∷ Mark gap ∷ Mark sign ∷ more)
     → (at == at_sign && gap == space) ≡ true → is_sign sign ≡ true → HasMinutes stop more
 closed-at None at run gap sign more h e s = tt
-closed-at (Some lines) at run gap sign more h e s =
-    and-second (at == at_sign && gap == space && is_sign sign) (are_white more) (and_from (at == at_sign && gap == space) (is_sign sign) e s) h
+closed-at (Some lines) at run gap sign more h e s = grind (arith, and-second, and_from)
 
 -- where the tokens end: a line feed says what nothing says
 white-after : (stop : Option (List Token)) → HasMinutes stop [] → (white (after stop) ≡ 0) × (without_white (after stop) ≡ after stop)

@@ -1,5 +1,5 @@
 -- Texts that are read up to their first NUL: in letter case, and where more follows.
-use Rattle.std.proofs.Common.{◌≡◌, ◌∙◌, ◌≤◌, ◌<◌, ℕ, nat_lt, Bool, true, false, cond, List, [], ◌∷◌, ◌++◌, length, take, refl, ap, ap₂, sym, arith, length-append, Option, Some, None, Result, Ok, Err}
+use Rattle.std.proofs.Common.{◌≡◌, ◌∙◌, ◌<◌, ℕ, nat_lt, cond, List, [], ◌∷◌, ◌++◌, length, take, refl, ap, ap₂, sym, arith, length-append, Option, Some, None, Result, Ok, Err}
 use Rattle.std.specs.Char.{to_ascii_lowercase}
 use Rattle.std.specs.Option.{option_or}
 use Rattle.std.specs.Str.{str_to_ascii_lowercase}
@@ -21,8 +21,7 @@ len-lower (c ∷ text) = ap₂ first_len (grind (arith, nat_tests)) (len-lower t
 
 pub before-lower : (text : List ℕ) → before_nul (str_to_ascii_lowercase text) ≡ str_to_ascii_lowercase (before_nul text)
 unfolding before_nul
-before-lower text =
-    ap (λ (n : ℕ). take n (str_to_ascii_lowercase text)) (len-lower text) ∙ take-map to_ascii_lowercase (string_len text) text
+before-lower text = grind (arith, len-lower, take-map)
 
 pub place-lower : (text : List ℕ) → nul_place (str_to_ascii_lowercase text) ≡ nul_place text
 unfolding nul_place
@@ -35,19 +34,11 @@ same-before text more e = ap (λ (n : ℕ). take n (text ++ more)) e ∙ take-ap
 
 longer-before : (text more : List ℕ) → string_len text ≡ length text → before_nul (text ++ more) ≡ text ++ before_nul more
 unfolding before_nul
-longer-before text more e =
-    ap (λ (n : ℕ). take n (text ++ more)) (longer-len text more e) ∙ take-append-add text more (string_len more)
+longer-before text more e = grind (arith, longer-len, take-append-add)
 
 -- a NUL stands in the text, or not
 by-nul : (text : List ℕ) (P : Type 0) → (string_len text < length text → P) → (string_len text ≡ length text → P) → P
-by-nul text P some none = by (nat_lt (string_len text) (length text)) refl
-  where
-    by : (b : Bool) → nat_lt (string_len text) (length text) ≡ b → P
-    by true e = some (grind (arith, nat_tests, e))
-    by false e = let least = within text in none (omega (arith, least, not-less e))
-      where
-        not-less : nat_lt (string_len text) (length text) ≡ false → length text ≤ string_len text
-        not-less e = grind (arith, nat_tests, e)
+by-nul text P some none = grind (arith, nat_lt, nat_tests, within)
 
 -- what a reader of texts without NUL makes of any text: `up` adds a place to what is ignored
 module _ (A : Type 0) (up : Option ℕ → A → A) (of : List ℕ → A) (first : (other : Option ℕ) (place : ℕ) (x : A) → up other (up (Some place) x) ≡ up (Some place) x)

@@ -1,14 +1,14 @@
 -- Texts that the moment's instant does not matter to.
-use Rattle.std.proofs.Common.{◌≡◌, ◌∙◌, ◌<◌, ℕ, zero, suc, ℤ, Bool, true, false, cond, not, List, [], ◌∷◌, length, refl, ap, arith, Option, Some, None, Result, Ok, Err}
+use Rattle.std.proofs.Common.{◌≡◌, ◌<◌, ℕ, zero, suc, ℤ, Bool, true, false, cond, not, List, [], ◌∷◌, length, refl, ap, arith, Option, Some, None, Result, Ok, Err}
 use Rattle.std.proofs.lemmas.Bool.{or_parts}
 use Rattle.std.specs.Prelude.{◌==◌, ◌&&◌, ◌||◌, nat_le}
-use Rattle.std.specs.Option.{option_or, option_map_or}
+use Rattle.std.specs.Option.{option_map_or}
 use Rattle.std.proofs.lemmas.Bool.Decides.{nat_tests}
-use Rattle.gix_date.specs.Text.Characters.{colon, dot}
+use Rattle.gix_date.specs.Text.Characters.{colon}
 use Rattle.git_date.specs.Tokens.Tokens.{Token, Letters, Digits, Mark, tokens, bytes_left, is_end, walked}
 use Rattle.git_date.specs.Tokens.Numbers.{number, is_too_large}
 use Rattle.git_date.specs.Rules.Dates.{is_day_of_month, recent_date}
-use Rattle.git_date.specs.Rules.Groups.{ReadTokens, group_of, day_month_group, group_rule, second_of, third_of, taken_or_refused}
+use Rattle.git_date.specs.Rules.Groups.{ReadTokens, group_of, day_month_group, group_rule}
 use Rattle.git_date.specs.Rules.Digits.{Stepped, is_epoch, epoch_rule, group_or_bare, digits_rule, group_said, grouped}
 use Rattle.git_date.specs.Rules.Offsets.{at_text}
 use Rattle.git_date.specs.Exact.Reading.{nothing_read, read_on, ended, rule, steps, reading_of, fields_said, at_or_fields, string_said}
@@ -27,23 +27,14 @@ no-recent now f month day (Some third) h = rw h
 -- a number above 70 is neither a month nor a day
 refused : (now : Now) (f : Fields) (g : Group) → 70 < g.first → day_month_group now f g ≡ Refused
 unfolding day_month_group
-refused now f g h =
-    let first = no-recent now f g.first (second_of g) (third_of g) (grind (arith, nat_tests, h)) in
-    let second = no-recent now f (second_of g) g.first (third_of g) (grind (arith, nat_tests, h)) in
-    rw (first, second) (either-none (g.mark == dot))
-  where
-    either-none : (b : Bool) → taken_or_refused (cond b (option_or None None) (option_or None None)) ≡ Refused
-    either-none true = refl
-    either-none false = refl
+refused now f g h = grind (arith, no-recent, nat_tests)
 
 group-by : (now other : Now) (f : Fields) (g : Group) (clock low : Bool) → (g.mark == colon) ≡ clock → nat_le g.first 70 ≡ low → (not clock && low) ≡ false
     → group_rule now f g ≡ group_rule other f g
 unfolding group_rule
 group-by now other f g true low e l h = rw e
 group-by now other f g false true e l h = absurd cc
-group-by now other f g false false e l h =
-    let above : 70 < g.first = grind (arith, nat_tests) in
-    rw (refused now f g above, refused other f g above)
+group-by now other f g false false e l h = grind (arith, nat_tests, refused)
 
 group-same : (now other : Now) (f : Fields) (g : Group) → is_day_month g ≡ false → group_rule now f g ≡ group_rule other f g
 group-same now other f g h = group-by now other f g (g.mark == colon) (nat_le g.first 70) refl refl h
@@ -82,10 +73,7 @@ step-same : (now other : Now) (n : ℕ) (r : Reading) (t : Token) (more : List T
     → ((r : Reading) (rest : List Token) → meets_day_month now n r rest ≡ false → steps now n r rest ≡ steps other n r rest)
     → cond ends (Ok r) (later now n r (bytes_left (t ∷ more)) (rule now r.fields t more)) ≡ cond ends (Ok r) (later other n r (bytes_left (t ∷ more)) (rule other r.fields t more))
 step-same now other n r t more true h same = refl
-step-same now other n r t more false h same =
-    let goes = goes_on (rule now r.fields t more) (λ next. meets_day_month now n (read_on r (bytes_left (t ∷ more)) next.0) next.1) in
-    then-same now other n r (bytes_left (t ∷ more)) (rule now r.fields t more) (or_parts (begins_day_month t more) goes h).1 same
-    ∙ ap (later other n r (bytes_left (t ∷ more))) (rule-same now other r.fields t more (or_parts (begins_day_month t more) goes h).0)
+step-same now other n r t more false h same = grind (arith, then-same, or_parts, rule-same)
 
 steps-same : (now other : Now) (n : ℕ) (r : Reading) (ts : List Token) → meets_day_month now n r ts ≡ false → steps now n r ts ≡ steps other n r ts
 unfolding walked meets_day_month

@@ -1,5 +1,5 @@
 -- Letter case and later lines.
-use Rattle.std.proofs.Common.{◌≡◌, ◌∙◌, ◌≤◌, ◌+◌, ◌-◌, ℕ, ℤ, Bool, true, false, cond, List, [], ◌∷◌, ◌++◌, length, refl, ap, ap₂, sym, arith, length-append, Option, Some, None, option_map, Result, Ok, Err}
+use Rattle.std.proofs.Common.{◌≡◌, ◌∙◌, ◌≤◌, ◌+◌, ℕ, ℤ, Bool, true, false, cond, List, [], ◌∷◌, ◌++◌, length, refl, ap, ap₂, sym, arith, length-append, Option, Some, None, option_map, Result, Ok, Err}
 use Rattle.std.proofs.Math.Numerals.{one-add}
 use Rattle.std.proofs.lemmas.List.{length-map}
 use Rattle.std.specs.Char.{is_ascii_alphabetic, is_ascii_digit, to_ascii_lowercase}
@@ -9,8 +9,6 @@ use Rattle.std.proofs.lemmas.Slice.Eq.{bytes_eq-Decides}
 use Rattle.std.proofs.lemmas.Bool.Decides.{nat_tests}
 use Rattle.gix_date.specs.Text.Characters.{newline}
 use Rattle.gix_date.specs.Text.Names.{is_name}
-use Rattle.gix_date.specs.Fields.Zoned.{is_instant}
-use Rattle.git_date.specs.Rules.Fields.{is_leap}
 use Rattle.git_date.specs.Tokens.Tokens.{Token, Letters, Mark, letter_before, digit_before, tokens, bytes_left}
 use Rattle.git_date.specs.Rules.Dates.{exact_seconds}
 use Rattle.git_date.specs.Rules.Offsets.{at_text}
@@ -19,7 +17,6 @@ use Rattle.git_date.specs.Tokens.Strings.{before_nul, nul_place}
 use Rattle.git_date.specs.Types.Names.{Now}
 use Rattle.git_date.specs.Types.Names.{Fault}
 use Rattle.git_date.specs.Types.FaultCases.{NumberTooLarge, BackTooFar, YearRefused, Range}
-use Rattle.git_date.specs.declared.error.DateError.TheVariants as error
 use Rattle.git_date.specs.Types.Names.{Reading}
 use Rattle.git_date.proofs.Text.TokenRuns.{texts_are}
 use Rattle.git_date_laws.specs.Texts.Lines.{AreComplete}
@@ -38,17 +35,15 @@ same-places text other k (Some left) e = ap Some (omega arith)
 same-seconds : (text other : List ℕ) (k : ℕ) (r : Reading) (seconds : Option ℤ) → length other ≡ length text + k
     → by_seconds other (farther k r) seconds ≡ by_seconds text r seconds
 same-seconds text other k r None e = refl
-same-seconds text other k r (Some seconds) e =
-    ap (λ (ignored : Option ℕ). cond (is_instant seconds)
-    (Ok (record { seconds = seconds; offset = r.fields.offset; epoch = r.fields.epoch; leap = is_leap r.fields; ignored = ignored })) (Err error.Range)) (same-places text other k r.ignored e)
+same-seconds text other k r (Some seconds) e = grind (arith, same-places)
 
 same-fields : (text other : List ℕ) (k : ℕ) (read : Result Reading Fault) → length other ≡ length text + k
     → fields_said other (read_farther k read) ≡ fields_said text read
 unfolding fields_said
 same-fields text other k (Ok r) e = same-seconds text other k r (exact_seconds r.fields) e
-same-fields text other k (Err (NumberTooLarge left)) e = let place : length other - (left + k) ≡ length text - left = omega arith in ap (λ (n : ℕ). Err (error.NumberTooLarge n)) place
-same-fields text other k (Err (BackTooFar left)) e = let place : length other - (left + k) ≡ length text - left = omega arith in ap (λ (n : ℕ). Err (error.BackTooFar n)) place
-same-fields text other k (Err (YearRefused left)) e = let place : length other - (left + k) ≡ length text - left = omega arith in ap (λ (n : ℕ). Err (error.YearRefused n)) place
+same-fields text other k (Err (NumberTooLarge left)) e = grind (arith)
+same-fields text other k (Err (BackTooFar left)) e = grind (arith)
+same-fields text other k (Err (YearRefused left)) e = grind (arith)
 same-fields text other k (Err Range) e = refl
 
 module _ (spell : List ℕ → List ℕ) (same : IsSpelling spell) (stop : Option (List Token)) (now : Now) (text other : List ℕ)
@@ -125,9 +120,7 @@ string-said-lower now text =
 
 said-lower : (now : Now) (text : List ℕ) → said_by now (str_to_ascii_lowercase text) ≡ said_by now text
 unfolding said_by
-said-lower now text =
-    (λ i. said_up_to (place-lower text i) (string_said now (before-lower text i)))
-    ∙ ap (said_up_to (nul_place text)) (string-said-lower now (before_nul text))
+said-lower now text = grind (arith, place-lower, before-lower, string-said-lower)
 
 pub equal-bytes : (a b : List ℕ) → bytes_eq a b ≡ true → a ≡ b
 equal-bytes a b h = (bytes_eq-Decides a b).0 h
@@ -180,6 +173,4 @@ newline-first lines = rw one-add refl
 
 pub same-lines : (now : Now) (text lines : List ℕ) → AreComplete (tokens text)
     → said_by now (text ++ newline ∷ lines) ≡ said_up_to (nul_place (text ++ newline ∷ lines)) (said_by now text)
-same-lines now text lines complete =
-    said-at-more now text (newline ∷ lines)
-    (λ all. ap (λ (rest : List ℕ). string_said now (text ++ rest)) (newline-first lines) ∙ same-string-lines now text (before_nul lines) complete)
+same-lines now text lines complete = grind (arith, said-at-more, newline-first, same-string-lines)

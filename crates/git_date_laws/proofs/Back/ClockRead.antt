@@ -10,7 +10,6 @@ use Rattle.jiff_core.specs.declared.Offset.{Offset}
 use Rattle.jiff_tz.specs.PosixRule as rule
 use Rattle.jiff_tz.specs.PosixRule.{in_window, match_some, utc_window}
 use Rattle.jiff_tz.specs.Zone.{zero_in_range}
-use Rattle.jiff_tz.specs.Year.{year_of_nanos}
 use Rattle.jiff_tz.specs.declared.posix.Dst.{Dst}
 use Rattle.jiff_tz.specs.declared.posix.TimeZone.{TimeZone as Rule}
 use Rattle.gix_date.specs.Fields.Zoned.{is_instant}
@@ -101,16 +100,10 @@ module _ (zone : States) (a b : ℤ) (asked : Asked) (near : AreNear zone) (two 
         (λ there says other. second n (moved (first_trail guess) there) refl (known guess there small says) (near (asked.clock -ℤ guess) there says))
 
 shown-state : (zone : States) (clock offset : ℤ) → shows zone clock offset ≡ true → (there : ZoneState) × (Some there ≡ state_by zone clock there.offset) × (there.offset ≡ offset)
-shown-state zone clock offset h = by (state_by zone clock offset) refl h
-  where
-    by : (found : Option ZoneState) → state_by zone clock offset ≡ found → is_same offset (option_map offset_of found) ≡ true
-        → (there : ZoneState) × (Some there ≡ state_by zone clock there.offset) × (there.offset ≡ offset)
-    by (Some there) e h = let same : there.offset ≡ offset = sym ((Decides-int_eq offset there.offset).0 h) in (there, sym e ∙ ap (state_by zone clock) (sym same), same)
-    by None e h = absurd cc
+shown-state zone clock offset h = grind (arith)
 
 shows-there : (zone : States) (clock offset : ℤ) (there : ZoneState) → Some there ≡ state_by zone clock offset → there.offset ≡ offset → shows zone clock offset ≡ true
-shows-there zone clock offset there says e =
-    ap (λ (found : Option ZoneState). is_same offset (option_map offset_of found)) (sym says) ∙ (Decides-int_eq offset there.offset).1 (sym e)
+shows-there zone clock offset there says e = grind (arith)
 
 module _ (zone : States) (a b clock : ℤ) (near : AreNear zone) (two : HasTwoOffsets zone clock a b) where
   -- Where the clock is ever shown, the offset that is found without a flag shows it, from each guess.
@@ -191,19 +184,11 @@ summer_offset std dst = match_some dst std (λ d. d.offset)
 
 two-of-rule : (std : Offset) (dst : Option Dst) (n : ℤ) → Either std.seconds (summer_offset std dst).seconds (offset_by std dst n).seconds
 two-of-rule std None n = inl refl
-two-of-rule std (Some d) n = by (in_window (utc_window d (year_of_nanos n) std) n)
-  where
-    by : (b : Bool) → Either std.seconds d.offset.seconds (match_some (cond b (Some d) None) std (λ (x : Dst). x.offset)).seconds
-    by true = inr refl
-    by false = inl refl
+two-of-rule std (Some d) n = grind (arith)
 
 rule-offsets : (r : Rule) (clock : ℤ) → HasTwoOffsets (states_of (Posix r)) clock r.std_offset.seconds (summer_offset r.std_offset r.dst).seconds
 unfolding offset_at
-rule-offsets r clock o small = by (is_instant (clock -ℤ o))
-  where
-    by : (b : Bool) → IfSome (cond b (Some (state_there (Posix r) (nanos_of_seconds (clock -ℤ o)))) None) (λ s. Either r.std_offset.seconds (summer_offset r.std_offset r.dst).seconds s.offset)
-    by true = two-of-rule r.std_offset r.dst (nanos_of_seconds (clock -ℤ o))
-    by false = tt
+rule-offsets r clock o small = grind (arith, two-of-rule)
 
 pub clocks_read : (tz : TimeZone) → IsClockRead tz
 clocks_read tz = record {

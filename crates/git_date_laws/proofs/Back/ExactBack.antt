@@ -7,7 +7,7 @@ use Rattle.gix_date.proofs.Fields.Instants.{z_holds}
 use Rattle.gix_date.specs.declared.time.Time.{Time}
 use Rattle.git_date.proofs.Text.Walked.{nothing-left}
 use Rattle.git_date.specs.Approximate.Reading.{rule, steps, draft_of, answer, answer_of, answer_up_to, guess_by, string_guess, guess, step}
-use Rattle.git_date.specs.Approximate.Drafts.{first_draft, clock_fields, all_fields, with_shown, settle, units, last_of}
+use Rattle.git_date.specs.Approximate.Drafts.{first_draft, clock_fields, all_fields, with_shown, settle, last_of}
 use Rattle.git_date.specs.Approximate.Rules.{letters_rule, digits_rule, meaning_rule, is_padded}
 use Rattle.git_date.specs.Approximate.Words.{moment_named, count_named, unit_named, meaning_of}
 use Rattle.gix_date.specs.Text.LongNames.{weekday_told, month_told}
@@ -71,17 +71,14 @@ pub digits-wait : (zone : States) (today : Today) (run : List ℕ) (gap : ℕ) (
     → rule zone today (first_draft today.shown) (Digits run) (followed gap unit last)
     ≡ Ok (waiting_draft today.shown (number run) (bytes_left (Digits run ∷ followed gap unit last)), followed gap unit last)
 unfolding digits_rule group_said group_of marked_number without_ending settle
-digits-wait zone today run gap unit last small some padded =
-    rw (not-large (number run) small, not-zero (number run) some, padded) refl
+digits-wait zone today run gap unit last small some padded = grind (arith, not-large, not-zero)
 
 -- the unit moves the draft, where its filling does
 unit-moves : (zone : States) (c : ZoneClock) (guess : ℤ) (next : ZoneClock) (unit : List ℕ) (last n size left : ℕ) → meaning_of unit ≡ Some (meaning.Unit (Seconds size)) → n * size ≤ max_small
     → fill zone c.clock (record (waiting_draft c n left) { waiting = None }) (n * size) left ≡ Ok (moved_draft guess next)
     → letters_rule zone c.clock (waiting_draft c n left) unit (Mark last ∷ Letters (codes "ago") ∷ []) ≡ Ok (moved_draft guess next)
 unfolding letters_rule meaning_rule
-unit-moves zone c guess next unit last n size left means small moves =
-    let same : units n size ≡ n * size = omega (arith, small) in
-    rw (means, same, not-large (n * size) small, moves) refl
+unit-moves zone c guess next unit last n size left means small moves = grind (arith, not-large)
 
 pub ago-nothing : (zone : States) (c : LocalTime) (d : Draft) → letters_rule zone c d (codes "ago") [] ≡ Ok d
 unfolding letters_rule meaning_of month_told moment_named count_named weekday_told unit_named

@@ -5,7 +5,7 @@ use Rattle.std.proofs.lemmas.Bool.Decides.{nat_tests}
 use Rattle.git_date.proofs.Rules.Kept.{either}
 use Rattle.git_date.proofs.Exact.NoSeconds.{AreAll, Keeps, read-quiet, no-seconds}
 use Rattle.git_date.specs.Rules.Dates.{last_year}
-use Rattle.git_date.specs.Rules.Digits.{Stepped, min_epoch, is_epoch, bare_digits, four_digits, few_digits, two_digit_year, or_month, digits_rule, group_said}
+use Rattle.git_date.specs.Rules.Digits.{Stepped, min_epoch, is_epoch, bare_digits, four_digits, few_digits, or_month, digits_rule, group_said}
 use Rattle.git_date.specs.Rules.Fields.{unknown, with_clock}
 use Rattle.git_date.specs.Rules.Groups.{group_of, marked_number, without_fraction}
 use Rattle.git_date.specs.Tokens.Numbers.{number, is_too_large}
@@ -42,7 +42,7 @@ year-lack n None = either AllLack (nat_le 1 n && nat_le n 12 && true) _ None ref
 
 few-lack : (width n : ℕ) → AllLack (few_digits unknown width n)
 unfolding few_digits
-few-lack width n = either AllLack (nat_le 1 n && nat_le n 31 && true) _ _ refl (year-lack n (cond (width == 2) (two_digit_year unknown n) None))
+few-lack width n = grind (arith, either, nat_le, year-lack)
 
 -- a step that leaves all that follows, and no clock with a year
 abbrev pub Lacking : List Token → Stepped → Type 0

@@ -1,8 +1,8 @@
 -- A zone of one offset.
-use Rattle.std.proofs.Common.{◌≡◌, ℤ, Bool, true, false, cond, Some, None, pos, refl, ap, ap₂}
-use Rattle.std.specs.Ordering.{int_eq}
+use Rattle.std.proofs.Common.{arith}
+use Rattle.std.proofs.Common.{◌≡◌, ℤ, Bool, false, cond, Some, None, ap, ap₂}
 use Rattle.jiff.proofs.ZoneFacts.{offset_at-fixed_zone}
-use Rattle.jiff.specs.Types.{Offset, UTC, Fixed}
+use Rattle.jiff.specs.Types.{Offset}
 use Rattle.jiff.specs.Words.{fixed_zone, nanos_of_seconds}
 use Rattle.gix_date.specs.Fields.Zoned.{is_instant}
 use Rattle.git_date.specs.Exact.Zones.{daylight_at, state_there, states_of, one_offset}
@@ -10,11 +10,7 @@ use Rattle.git_date.specs.Types.Names.{ZoneState}
 
 no-daylight : (o : Offset) (n : ℤ) → daylight_at (fixed_zone o) n ≡ false
 unfolding daylight_at
-no-daylight o n = by (int_eq o.seconds (pos 0))
-  where
-    by : (b : Bool) → daylight_at (cond b UTC (Fixed o)) n ≡ false
-    by true = refl
-    by false = refl
+no-daylight o n = grind (arith)
 
 abbrev state : ℤ → Bool → ZoneState
 state offset daylight = record { offset = offset; daylight = daylight }

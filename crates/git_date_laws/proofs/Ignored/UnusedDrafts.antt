@@ -1,4 +1,5 @@
 -- What the approximate reader ignores is the earliest token that is not used.
+use Rattle.std.proofs.Common.{rules}
 use Rattle.std.proofs.Common.{◌≡◌, ◌∙◌, ◌≤◌, max, not, ℕ, zero, suc, true, false, cond, List, [], ◌∷◌, ◌++◌, length, refl, sym, ap, subst, arith, option_map, is_some, Option, Some, None, Result, Ok, Err}
 use Rattle.std.proofs.lemmas.Bool.Decides.{nat_tests}
 use Rattle.std.specs.Prelude.{◌==◌, ◌&&◌, ◌||◌}
@@ -49,8 +50,7 @@ short-of n (Ok found) h = h.1
 short-of n (Err fault) h = h
 
 read-short : (now : Now) (d : Draft) (run : List ℕ) (more : List Token) → IsShort (length more) (digits_rule now d run more)
-read-short now d run more =
-    short-of (length more) _ (digits-at (λ left. Unit {0}) (λ ts. length ts ≤ length more) (short-kept (length more)) now d run more tt (omega arith) (any-draft d))
+read-short now d run more = search (rules, short-of, digits-at, short-kept, any-draft)
 
 -- places
 one-place : (i : Option ℕ) (left : ℕ) → Some (earlier left i) ≡ earliest i (left ∷ [])
@@ -122,7 +122,7 @@ group-leaves : (now : Now) (r next : Draft) (run : List ℕ) (more rest : List T
     → and_then said (λ said. Ok (group_or_number r run more said)) ≡ Ok (next, rest)
     → next.ignored ≡ earliest r.ignored (cond (not (takes_group now r.fields (group_of (number run) more)) && (number run == 0 || is_padded run)) (bytes_left (Digits run ∷ more) ∷ []) [])
 group-leaves now r next run more rest (Ok (Some found)) is e = rw (group-takes now r.fields run more (Some found) is) (grind arith)
-group-leaves now r next run more rest (Ok None) is e = rw (group-takes now r.fields run more None is) (grind (arith, waits-leaves r run (bytes_left (Digits run ∷ more))))
+group-leaves now r next run more rest (Ok None) is e = grind (arith, group-takes, waits-leaves)
 group-leaves now r next run more rest (Err wrong) is e = absurd cc
 
 digits-leave : (now : Now) (d next : Draft) (run : List ℕ) (more rest : List Token) → digits_rule now d run more ≡ Ok (next, rest)

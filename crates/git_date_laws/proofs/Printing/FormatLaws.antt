@@ -2,12 +2,10 @@
 use Rattle.std.proofs.Common.{◌≡◌, ◌∙◌, ◌<◌, ℕ, Bool, true, false, cond, List, [], ◌∷◌, ◌++◌, length, refl, ap, sym, arith, append-nil, ℤ, Option, Some, None, Ok, codes}
 use Rattle.std.proofs.Math.Seq.{drop-length, take-length}
 use Rattle.std.specs.List.{list_any}
-use Rattle.std.specs.Prelude.{◌&&◌, ◌||◌, is_none, option_map}
+use Rattle.std.specs.Prelude.{◌&&◌, ◌||◌, option_map}
 use Rattle.jiff.specs.Types.{TimeZone}
 use Rattle.gix_date.specs.Fields.Layout.{LocalTime}
-use Rattle.gix_date.specs.Fields.Offsets.{compact_offset_text}
 use Rattle.gix_date.specs.Printing.LocalClocks.{clock_of}
-use Rattle.gix_date.specs.Text.Characters.{space}
 use Rattle.gix_date.specs.Text.Front.{◌>>=◌}
 use Rattle.gix_date.specs.Text.Numbers.{decimal_text}
 use Rattle.gix_date.specs.declared.time.Time.{Time}
@@ -57,9 +55,7 @@ and-false false = refl
 by-found : (ps : List Piece) (text : List ℕ) (found : Option Shown) → asks_seconds ps ≡ false → ((shown : Shown) → texts shown ps ≡ text)
     → (found >>= shown_pieces ps) ≡ option_map (λ shown. text) found
 by-found ps text None h is = refl
-by-found ps text (Some shown) h is =
-    let b : (is_none shown.seconds && asks_seconds ps) ≡ false = ap (λ (x : Bool). is_none shown.seconds && x) h ∙ and-false (is_none shown.seconds) in
-    rw b (ap (λ (x : List ℕ). let r : Option (List ℕ) = Some x in r) (is shown))
+by-found ps text (Some shown) h is = grind (arith, and-false)
 
 pub shows_itself : (zone : TimeZone) (local : Bool) (format : List ℕ) (t : Time) → ShowsItself zone local format t
 unfolding shown_by_format
@@ -86,14 +82,11 @@ own-offset t clock e = offset-by (has_own_clock t) t clock e
 
 seconds-shown : (zone : TimeZone) (t : Time) (k : IsOfKnownYear t) → shown_by_format zone false (codes "%s") t ≡ Some (decimal_text t.seconds)
 unfolding shown_by_format own_shown pieces pieces_in next_piece made_at number
-seconds-shown zone t k = rw (k.shows, k.known) (ap (λ (x : List ℕ). let r : Option (List ℕ) = Some x in r) (append-nil (decimal_text t.seconds)))
+seconds-shown zone t k = grind (arith, append-nil)
 
 raw-shown : (zone : TimeZone) (t : Time) (k : IsOfKnownYear t) → shown_by_format zone false (codes "%s %z") t ≡ Some (raw_text t.seconds t.offset)
 unfolding shown_by_format own_shown pieces pieces_in next_piece made_at number
-raw-shown zone t k =
-    rw (k.shows, k.known)
-    (ap (λ (x : List ℕ). let r : Option (List ℕ) = Some (decimal_text t.seconds ++ space ∷ x) in r)
-    (append-nil (compact_offset_text k.clock.offset) ∙ ap (λ (o : ℤ). compact_offset_text o) (own-offset t k.clock k.shows)))
+raw-shown zone t k = grind (arith, append-nil, own-offset)
 
 pub shows_stored : (zone : TimeZone) (t : Time) → ShowsStored zone t
 shows_stored zone t k = (seconds-shown zone t k, raw-shown zone t k)

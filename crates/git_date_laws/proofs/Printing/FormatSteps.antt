@@ -1,17 +1,13 @@
 -- What a format says, byte by byte of its text and directive by directive.
-use Rattle.std.proofs.Common.{◌≡◌, ◌∙◌, ◌+◌, ◌<◌, ◌≤◌, ℕ, zero, suc, Bool, true, false, List, [], ◌∷◌, ◌++◌, length, take, drop, refl, ap, sym, subst, arith, append_assoc, Option, Some, None, Result, Ok, Err}
+use Rattle.std.proofs.Common.{◌≡◌, ◌∙◌, ◌+◌, ◌<◌, ◌≤◌, ℕ, zero, suc, Bool, true, false, List, [], ◌∷◌, ◌++◌, length, take, drop, refl, ap, subst, arith, append_assoc, Option, Some, None, Result, Ok, Err}
 use Rattle.std.proofs.lemmas.List.{length-drop}
-use Rattle.std.specs.List.{slice_get}
-use Rattle.std.specs.Prelude.{◌||◌, ◌==◌, if◌then◌else◌, nat_lt}
+use Rattle.std.specs.Prelude.{◌||◌, if◌then◌else◌}
 use Rattle.std.specs.Result.{result_err}
 use Rattle.git_date.specs.declared.format.fault.FormatFault.{FormatFault}
 use Rattle.git_date.specs.declared.format.fault.FormatFault.TheVariants.{FlagRefused, UnknownDirective, WidthTooLarge}
-use Rattle.git_date.specs.Formats.Directives.{plain_lettered, directive_lettered}
-use Rattle.git_date.specs.Formats.Flags.{max_width}
 use Rattle.git_date.specs.Formats.Format.{asks_seconds, is_seconds, piece_text, texts}
-use Rattle.git_date.specs.Formats.Pieces.{Made, Piece, Text, Begun, begun, text_piece, is_percent, text_len, marks_len, digits_len, after_marks, after_digits, letter_place, made_at, made_by, made_if, directive_at, plain_or_directive, next_piece, pieces, pieces_in, piece_before, then_pieces}
+use Rattle.git_date.specs.Formats.Pieces.{Made, Piece, Text, Begun, begun, is_percent, text_len, letter_place, made_at, made_by, made_if, next_piece, pieces, pieces_in, piece_before, then_pieces}
 use Rattle.git_date.specs.Formats.Shown.{Shown}
-use Rattle.git_date.specs.Tokens.Numbers.{number}
 
 abbrev pub Pieces : Type 0
 Pieces = Result (List Piece) FormatFault
@@ -45,10 +41,7 @@ or-assoc true b c = refl
 or-assoc false b c = refl
 
 pub before-before : (x y : Bool × List ℕ) (r : Said) → before x (before y r) ≡ before (x.0 || y.0, x.1 ++ y.1) r
-before-before x y (Ok z) =
-    let asks = or-assoc x.0 y.0 z.0 in
-    let text = sym (append_assoc x.1 y.1 z.1) in
-    λ i. Ok (asks i, text i)
+before-before x y (Ok z) = grind (arith, or-assoc, append_assoc)
 before-before x y (Err e) = refl
 
 -- how many bytes are left at a fault
@@ -74,14 +67,7 @@ width-left left other false m = refl
 
 letter-left : (left other : ℕ) (marks digits : List ℕ) (letter : ℕ)
     → SameBut left other (made_by left marks digits letter) (made_by other marks digits letter)
-letter-left left other marks digits letter =
-    elim (plain_lettered letter) as (λ plain. SameBut left other (plain_or_directive left marks digits plain (directive_lettered letter)) (plain_or_directive other marks digits plain (directive_lettered letter))) [
-      | Some plain ↦ plain-left left other (length marks + length digits == 0) _
-      | None ↦ elim (directive_lettered letter) as (λ directive. SameBut left other (directive_at left marks digits directive) (directive_at other marks digits directive)) [
-        | None ↦ refl
-        | Some directive ↦ width-left left other (nat_lt max_width (number digits)) _
-      ]
-    ]
+letter-left left other marks digits letter = grind (arith, plain-left, width-left)
 
 pub made-left : (left other : ℕ) (marks digits : List ℕ) (letter : Option ℕ)
     → SameBut left other (made_if left marks digits letter) (made_if other marks digits letter)
@@ -99,7 +85,7 @@ begun-goes rest (Err e) h = omega (arith, h)
 
 piece-goes : (c : ℕ) (rest : List ℕ) (b : Bool) → is_percent c ≡ b → Goes (length rest + 1) (next_piece (c ∷ rest))
 unfolding next_piece made_at
-piece-goes c rest true e = rw e (begun-goes rest (made_at rest) (made-left (length rest + 1) (length rest + 1) (take (marks_len rest) rest) (take (digits_len rest) (after_marks rest)) (slice_get (after_digits rest) 0)))
+piece-goes c rest true e = grind (arith, begun-goes, made-left)
 piece-goes c rest false e = rw e (omega (arith, length-drop (1 + text_len rest) (c ∷ rest)))
 
 goes : (c : ℕ) (rest : List ℕ) → Goes (length rest + 1) (next_piece (c ∷ rest))
@@ -127,11 +113,7 @@ enough (suc n) (suc m) (c ∷ rest) h k = then-enough n m (length rest + 1) (nex
 within-by : (n left : ℕ) (r : Next) (e : FormatFault) → Goes left r → then_pieces (pieces_in n) r ≡ Err e
     → ((text : List ℕ) → pieces_in n text ≡ Err e → left_of e ≤ length text) → left_of e ≤ left
 within-by n left (Err e') e h is more = let same : e' ≡ e = cc in subst (λ (f : FormatFault). left_of f ≤ left) same h
-within-by n left (Ok found) e h is more = by (pieces_in n found.1) refl is
-  where
-    by : (r : Pieces) → pieces_in n found.1 ≡ r → piece_before found.0 r ≡ Err e → left_of e ≤ left
-    by (Ok ps) same f = absurd cc
-    by (Err e') same f = let k = more found.1 (let q : e' ≡ e = cc in same ∙ ap Err q) in omega (arith, h, k)
+within-by n left (Ok found) e h is more = grind (arith)
 
 fault-within : (n : ℕ) (text : List ℕ) (e : FormatFault) → pieces_in n text ≡ Err e → left_of e ≤ length text
 unfolding pieces_in
@@ -162,10 +144,7 @@ first-step c rest = enough (length (c ∷ rest)) (suc (length rest)) (c ∷ rest
 step-said : (shown : Shown) (c : ℕ) (rest further : List ℕ) (piece : Piece) → next_piece (c ∷ rest) ≡ Ok (piece, further) → length further ≤ length rest
     → format_said shown (c ∷ rest) ≡ before (is_seconds piece, piece_text shown piece) (format_said shown further)
 unfolding pieces
-step-said shown c rest further piece is fewer =
-    ap (said shown) (first-step c rest ∙ ap (then_pieces (pieces_in (length rest))) is)
-    ∙ said-before shown piece (pieces_in (length rest) further)
-    ∙ ap (λ (r : Pieces). before (is_seconds piece, piece_text shown piece) (said shown r)) (enough (length rest) (length further) further fewer (omega arith))
+step-said shown c rest further piece is fewer = grind (arith, first-step, said-before, enough)
 
 next-by : (c : ℕ) (rest : List ℕ) (r : Result Made FormatFault) → is_percent c ≡ true → made_at rest ≡ r → next_piece (c ∷ rest) ≡ begun rest r
 unfolding next_piece
@@ -179,17 +158,14 @@ directive-said shown c rest m percent is =
 -- no text is said after a fault
 pub fault-said : (shown : Shown) (c : ℕ) (rest : List ℕ) (e : FormatFault) → is_percent c ≡ true → made_at rest ≡ Err e
     → format_said shown (c ∷ rest) ≡ Err e
-fault-said shown c rest e percent is =
-    ap (said shown) (first-step c rest ∙ ap (then_pieces (pieces_in (length rest))) (next-by c rest (Err e) percent is))
+fault-said shown c rest e percent is = grind (arith, first-step, next-by)
 
 text-more : (c : ℕ) (rest : List ℕ) → is_percent c ≡ false → text_len (c ∷ rest) ≡ suc (text_len rest)
 text-more c rest plain = rw plain (omega arith)
 
 text-next : (c : ℕ) (rest : List ℕ) → is_percent c ≡ false → next_piece (c ∷ rest) ≡ Ok (Text (c ∷ take (text_len rest) rest), drop (text_len rest) rest)
 unfolding next_piece
-text-next c rest plain =
-    ap (λ (b : Bool). if b then begun rest (made_at rest) else Ok (text_piece (c ∷ rest))) plain
-    ∙ ap (λ (n : ℕ). let r : Next = Ok (Text (take n (c ∷ rest)), drop n (c ∷ rest)) in r) (text-more c rest plain)
+text-next c rest plain = grind (arith, text-more)
 
 text-said : (shown : Shown) (c : ℕ) (rest : List ℕ) → is_percent c ≡ false
     → format_said shown (c ∷ rest) ≡ before (false, c ∷ take (text_len rest) rest) (format_said shown (drop (text_len rest) rest))
@@ -201,12 +177,8 @@ cut_at shown c rest n = before (false, c ∷ take n rest) (format_said shown (dr
 
 byte-by : (shown : Shown) (c d : ℕ) (more : List ℕ) (b : Bool) → is_percent d ≡ b
     → cut_at shown c (d ∷ more) (text_len (d ∷ more)) ≡ before (false, c ∷ []) (format_said shown (d ∷ more))
-byte-by shown c d more true percent =
-    let none : text_len (d ∷ more) ≡ 0 = rw percent refl in
-    ap (cut_at shown c (d ∷ more)) none
-byte-by shown c d more false plain =
-    ap (cut_at shown c (d ∷ more)) (text-more d more plain)
-    ∙ sym (ap (before (false, c ∷ [])) (text-said shown d more plain) ∙ before-before (false, c ∷ []) (false, d ∷ take (text_len more) more) (format_said shown (drop (text_len more) more)))
+byte-by shown c d more true percent = grind (arith)
+byte-by shown c d more false plain = grind (arith, text-more, text-said, before-before)
 
 -- a byte of text is said before what follows it, be that text or a directive
 pub byte-said : (shown : Shown) (c : ℕ) (rest : List ℕ) → is_percent c ≡ false

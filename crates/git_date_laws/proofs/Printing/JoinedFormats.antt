@@ -1,10 +1,10 @@
 -- Formats that are joined: what the first and the second say is what both say.
-use Rattle.std.proofs.Common.{◌≡◌, ◌∙◌, ◌+◌, ◌-◌, ◌<◌, ◌≤◌, ℕ, zero, suc, Bool, true, false, cond, List, [], ◌∷◌, ◌++◌, length, length-append, take, drop, eqb, refl, ap, sym, subst, arith, Option, Some, None, Result, Ok, Err}
+use Rattle.std.proofs.Common.{rules}
+use Rattle.std.proofs.Common.{◌≡◌, ◌∙◌, ◌+◌, ◌-◌, ◌<◌, ◌≤◌, ℕ, zero, suc, Bool, true, false, cond, List, [], ◌∷◌, ◌++◌, length, length-append, take, drop, refl, ap, sym, subst, arith, Option, Some, None, Result, Ok, Err}
 use Rattle.std.proofs.lemmas.Bool.{false≢true}
 use Rattle.std.proofs.lemmas.Bool.Decides.{nat_tests}
 use Rattle.std.proofs.lemmas.List.{length-drop, take-append-le, drop-append-le}
 use Rattle.std.proofs.lemmas.List.Folds.{prefix_len-append}
-use Rattle.std.specs.Char.{is_ascii_digit}
 use Rattle.std.specs.List.{prefix_len, slice_get}
 use Rattle.std.specs.Prelude.{◌&&◌, ◌||◌, is_none, option_map}
 use Rattle.std.specs.Result.{result_err, result_map_both, result_unwrap_or, is_ok}
@@ -13,7 +13,6 @@ use Rattle.gix_date.specs.Text.Front.{◌>>=◌}
 use Rattle.gix_date.specs.declared.time.Time.{Time}
 use Rattle.git_date.specs.declared.format.fault.FormatFault.{FormatFault}
 use Rattle.git_date.specs.declared.format.fault.FormatFault.TheVariants.{FlagRefused, UnknownDirective, WidthTooLarge}
-use Rattle.git_date.specs.Formats.Flags.{is_flag}
 use Rattle.git_date.specs.Formats.Format.{is_seconds, piece_text, shown_by_format, shown_pieces}
 use Rattle.git_date.specs.Formats.Pieces.{Made, Begun, is_percent, marks_len, digits_len, after_marks, after_digits, letter_place, made_at, made_if, pieces, pieces_in, pieces_or_none, is_format, placed, checked, checked_by}
 use Rattle.git_date.specs.Formats.Shown.{Shown, shown_at}
@@ -23,9 +22,7 @@ use Rattle.git_date_laws.proofs.Printing.FormatSteps.{Pieces, Said, said, sense,
 
 -- a front that ends within a text is that of the text and more
 front-within : (p : ℕ → Bool) (xs ys : List ℕ) → prefix_len p xs < length xs → prefix_len p (xs ++ ys) ≡ prefix_len p xs
-front-within p xs ys h =
-    let e : eqb (prefix_len p xs) (length xs) ≡ false = grind (arith, nat_tests, h) in
-    prefix_len-append p xs ys ∙ ap (λ (b : Bool). cond b (length xs + prefix_len p ys) (prefix_len p xs)) e
+front-within p xs ys h = grind (arith, nat_tests, prefix_len-append)
 
 first-within : (xs ys : List ℕ) → 0 < length xs → slice_get (xs ++ ys) 0 ≡ slice_get xs 0
 first-within [] ys h = absurd (omega arith)
@@ -39,21 +36,7 @@ record Within (rest second : List ℕ) : Type 0 where
   letter : after_digits (rest ++ second) ≡ after_digits rest ++ second
 
 within : (rest second : List ℕ) → letter_place rest < length rest → Within rest second
-within rest second h =
-    let k = marks_len rest in
-    let d = digits_len rest in
-    let marks : marks_len (rest ++ second) ≡ k = front-within is_flag rest second (omega (arith, h)) in
-    let after : after_marks (rest ++ second) ≡ after_marks rest ++ second =
-    ap (λ (n : ℕ). drop n (rest ++ second)) marks ∙ drop-append-le k rest second (omega (arith, h)) in
-    let few : d < length (after_marks rest) = omega (arith, h, length-drop k rest) in
-    let digits : digits_len (rest ++ second) ≡ d =
-    ap (λ (xs : List ℕ). prefix_len is_ascii_digit xs) after ∙ front-within is_ascii_digit (after_marks rest) second few in
-    record {
-      marks = marks;
-      after = after;
-      digits = digits;
-      letter = ap (λ (n : ℕ). drop n (after_marks (rest ++ second))) digits ∙ ap (drop d) after ∙ drop-append-le d (after_marks rest) second (omega (arith, few));
-    }
+within rest second h = grind (arith, front-within, drop-append-le, length-drop)
 
 made-more : (rest second : List ℕ) (m : Made) → made_at rest ≡ Ok m → made_at (rest ++ second) ≡ Ok m
 unfolding made_at
@@ -74,10 +57,7 @@ made-more rest second m e =
 
 further-more : (rest second : List ℕ) (m : Made) → made_at rest ≡ Ok m
     → drop (letter_place (rest ++ second) + 1) (rest ++ second) ≡ drop (letter_place rest + 1) rest ++ second
-further-more rest second m e =
-    let ends = (made-letter rest m e).0 in
-    let w = within rest second ends in
-    (λ i. drop (w.marks i + w.digits i + 1) (rest ++ second)) ∙ drop-append-le (letter_place rest + 1) rest second (omega (arith, ends))
+further-more rest second m e = grind (arith, made-letter, within, drop-append-le)
 
 -- what both say after a piece
 abbrev Says : Shown → ℕ → List ℕ → Type 0
@@ -117,9 +97,9 @@ module _ (shown : Shown) (n : ℕ) (c : ℕ) (rest second : List ℕ) (s : Bool 
 
 says : (shown : Shown) (n : ℕ) (second : List ℕ) → Says shown n second
 unfolding pieces pieces_in
-says shown zero second [] s h e = let same : (false, []) ≡ s = cc in nothing-before (format_said shown second) ∙ ap (λ (t : Bool × List ℕ). before t (format_said shown second)) same
+says shown zero second [] s h e = grind (arith, nothing-before, format_said, before)
 says shown zero second (c ∷ rest) s h e = absurd (omega arith)
-says shown (suc n) second [] s h e = let same : (false, []) ≡ s = cc in nothing-before (format_said shown second) ∙ ap (λ (t : Bool × List ℕ). before t (format_said shown second)) same
+says shown (suc n) second [] s h e = grind (arith, nothing-before, format_said, before)
 says shown (suc n) second (c ∷ rest) s h e = by-byte shown n c rest second s (omega arith) e (says shown n second) (is_percent c) refl
 
 -- what a format says, and then another
@@ -167,9 +147,7 @@ checked-after first second (Some e) is = ap Err (fault-moves first second e (fau
 
 pub checks-joined : (shown : Shown) (first second : List ℕ) → ChecksJoined first second
 unfolding checked
-checks-joined shown first second whole =
-    ap (λ (fault : Option FormatFault). checked_by (first ++ second) (option_map (placed (length (first ++ second))) fault)) (same-fault shown first second whole)
-    ∙ checked-after first second (result_err (pieces second)) refl
+checks-joined shown first second whole = search (rules, same-fault, checked-after)
 
 -- what is shown of what a format says
 abbrev shown_said : Bool → Bool × List ℕ → Option (List ℕ)
@@ -182,9 +160,7 @@ both-shown true false true xs ys = refl
 both-shown true false false xs ys = refl
 
 said-shown : (shown : Shown) (r : Pieces) (s : Bool × List ℕ) → said shown r ≡ Ok s → shown_pieces (result_unwrap_or r []) shown ≡ shown_said (is_none shown.seconds) s
-said-shown shown (Ok ps) s e =
-    let same : sense shown ps ≡ s = cc in
-    ap (shown_said (is_none shown.seconds)) same
+said-shown shown (Ok ps) s e = grind (arith, sense)
 said-shown shown (Err fault) s e = absurd cc
 
 joined-by : (found : Option Shown) (first second : List ℕ) → is_format first ≡ true → is_format second ≡ true

@@ -1,6 +1,7 @@
 -- The time that a printed clock says is the time that was printed.
+use Rattle.std.proofs.lemmas.Grind.{common_steps}
 use Rattle.std.proofs.Common.{◌≡◌, ◌∙◌, ◌≤◌, ◌≤ℤ◌, ◌<ℤ◌, ◌+◌, ◌*◌, ◌%◌, ℕ, ℤ, pos, negsuc, neg_ℤ, ◌+ℤ◌, ◌*ℤ◌, unsigned_abs, Bool, true, false, cond, List, refl, ap, sym, subst, arith, Some, None, Ok, Err, [], ◌∷◌, ◌++◌, append_assoc}
-use Rattle.std.specs.Prelude.{◌&&◌, int_lt, nat_le}
+use Rattle.std.specs.Prelude.{◌&&◌, int_lt}
 use Rattle.std.specs.Int.Signed.{le_z}
 use Rattle.std.proofs.lemmas.Bool.Decides.{nat_tests}
 use Rattle.std.proofs.lemmas.Option.{cond_some as guard}
@@ -16,7 +17,6 @@ use Rattle.gix_date.proofs.Printing.ReadBack.{local-instant, weekday-small}
 use Rattle.gix_date.specs.Fields.Civil.{civil_seconds, civil_instant, is_date, is_clock}
 use Rattle.gix_date.specs.Fields.ClockNumbers.{hours_in, minutes_in}
 use Rattle.gix_date.specs.Fields.Layout.{LocalTime, LocalDate, LocalClock}
-use Rattle.gix_date.specs.Families.Patterns.{midnight}
 use Rattle.gix_date.specs.Printing.LocalClocks.{clock_of}
 use Rattle.gix_date.specs.Printing.NamedTexts.{local_time, git_rfc2822_text, iso8601_text, iso8601_strict_text, default_text}
 use Rattle.gix_date.specs.Fields.Zoned.{is_instant}
@@ -27,11 +27,11 @@ use Rattle.gix_date.specs.Fields.FieldTexts.{four_digits, clock_text}
 use Rattle.gix_date.specs.Fields.Offsets.{compact_offset_text}
 use Rattle.std.specs.Fmt.{decimal}
 use Rattle.git_date.specs.Rules.Fields.{is_leap}
-use Rattle.git_date.specs.Rules.Dates.{is_month, first_of, month_start, seconds_after, exact_seconds}
+use Rattle.git_date.specs.Rules.Dates.{is_month, month_start, exact_seconds}
 use Rattle.git_date.specs.Exact.Outcome.{instant_seconds, date_at, date_of}
 use Rattle.git_date_laws.specs.Texts.Printed.{IsGitTime, IsReadBack, AreReadBack}
-use Rattle.git_date.specs.Exact.Reading.{by_seconds, fields_said, said_by}
-use Rattle.git_date.specs.Show.Clocks.{has_zone_clock, known_offset, time_at, whole_minutes, with_known_offset, zone_clock}
+use Rattle.git_date.specs.Exact.Reading.{fields_said, said_by}
+use Rattle.git_date.specs.Show.Clocks.{time_at, whole_minutes, with_known_offset, zone_clock}
 use Rattle.git_date.specs.Types.Names.{Now}
 use Rattle.git_date.specs.declared.error.DateError.TheVariants as error
 use Rattle.git_date.specs.Types.Names.{Said}
@@ -48,9 +48,7 @@ abbrev named_mail : List ℕ → LocalTime → List ℕ
 named_mail day l = (day_name l.weekday ++ (comma ∷ (space ∷ []))) ++ after_comma l day
 
 mail-back : (now : Now) (day : List ℕ) (l : LocalTime) → IsGitClock l → IsDayText l.date.day day → said_by now (named_mail day l) ≡ fields_said (named_mail day l) (Ok (at (fields_of l)))
-mail-back now day l h is =
-    subst (λ (text : List ℕ). said_by now text ≡ fields_said text (Ok (at (fields_of l)))) (sym (append_assoc (day_name l.weekday) (comma ∷ (space ∷ [])) (after_comma l day)))
-    (mail-reads day now l h is)
+mail-back now day l h is = grind (arith, fields_of, append_assoc, mail-reads)
 
 -- the seconds that such a clock has counted
 abbrev clock_of_utc : LocalTime → ℤ
@@ -64,18 +62,11 @@ month-known t h = let a = h.first_year in let b = h.last_year in let c = h.first
 
 exact : (t : LocalTime) → IsGitClock t → exact_seconds (fields_of t) ≡ Some (clock_of_utc t)
 unfolding exact_seconds month_start
-exact t h =
-    let known = month-known t h in
-    let later = later-day (pos t.date.year) t.date.month t.date.day h.first_day in
-    let whole : seconds_after (civil_seconds (first_of t.date.year t.date.month) midnight (pos 0)) (Some t.date.day) t.clock.hour t.clock.minute t.clock.second ≡ clock_of_utc t =
-    omega (arith, signed_arith, later) in
-    rw known (ap (λ (s : ℤ). Some s) whole)
+exact t h = grind (arith, nat_tests, common_steps, month-known, later-day, signed_arith)
 
 fields-are : (text : List ℕ) (t : LocalTime) → IsGitClock t → is_instant (clock_of_utc t) ≡ true → fields_said text (Ok (at (fields_of t))) ≡ Ok (said_of t)
 unfolding fields_said
-fields-are text t h instant =
-    ap (by_seconds text (at (fields_of t))) (exact t h)
-    ∙ ap (λ (b : Bool). cond b (Ok (said_of t)) (Err error.Range)) instant
+fields-are text t h instant = grind (arith, fields_of, exact)
 
 one-behind : (o : ℤ) (b : Bool) (k : ℕ) → pos 60 *ℤ signed b k ≡ o → b ≡ true → k ≡ 1 → o ≡ neg_ℤ (pos 60)
 one-behind o true k e t one = omega (arith, signed_arith)
@@ -186,17 +177,8 @@ known-minutes (negsuc n) h = omega (arith, signed_arith, h)
 
 known-clock : (t : Time) → IsGitTime t → with_known_offset (clock_of t) ≡ clock_of t
 unfolding clock_of
-known-clock t h =
-    let a = h.first in
-    let b = h.last in
-    let years : nat_le 1970 (clock_of t).date.year && nat_le (clock_of t).date.year 2099 ≡ true = grind (arith, nat_tests) in
-    let same : known_offset (clock_of t) ≡ t.offset = rw years (known-minutes t.offset h.round_trips.four_digits.minutes) in
-    ap (λ (o : ℤ). record (clock_of t) { offset = o }) same
+known-clock t h = grind (arith, nat_tests, known-minutes)
 
 pub zone-is : (zone : TimeZone) (s : ℤ) (clock : LocalTime) → IsGitTime (time_at zone s) → zone_clock zone s ≡ Some clock → clock ≡ clock_of (time_at zone s)
 unfolding zone_clock
-zone-is zone s clock h e = by (has_zone_clock s) e ∙ known-clock (time_at zone s) h
-  where
-    by : (b : Bool) → cond b (Some (with_known_offset (clock_of (time_at zone s)))) None ≡ Some clock → clock ≡ with_known_offset (clock_of (time_at zone s))
-    by true e = cc
-    by false e = absurd cc
+zone-is zone s clock h e = grind (arith, known-clock)

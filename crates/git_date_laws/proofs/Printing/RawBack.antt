@@ -1,19 +1,16 @@
 -- What `raw` shows, after `@`.
-use Rattle.std.proofs.Common.{◌≡◌, ◌∙◌, ◌≤◌, ◌<◌, ◌+◌, ◌/◌, ◌%◌, ◌^◌, ℕ, ℤ, pos, negsuc, ◌*ℤ◌, unsigned_abs, Bool, true, false, cond, List, [], ◌∷◌, ◌++◌, length, length-append, Option, Some, None, Result, Ok, Err, refl, sym, ap, arith}
+use Rattle.std.proofs.Common.{◌≡◌, ◌∙◌, ◌≤◌, ◌<◌, ◌+◌, ◌/◌, ◌%◌, ◌^◌, ℕ, ℤ, pos, negsuc, ◌*ℤ◌, Bool, true, false, List, [], ◌∷◌, ◌++◌, length, length-append, Option, Some, None, Result, Ok, refl, ap, arith}
 use Rattle.std.specs.Char.{is_ascii_digit}
 use Rattle.std.specs.Fmt.{decimal}
 use Rattle.std.specs.Int.Signed.{lt_z}
 use Rattle.std.specs.List.{fold, list_all}
-use Rattle.std.specs.Prelude.{◌==◌, int_lt, nat_lt}
 use Rattle.std.proofs.lemmas.Bool.{and_parts}
-use Rattle.std.proofs.lemmas.Bool.Decides.{Decides-ltb, Decides-eqb}
 use Rattle.std.proofs.lemmas.Fmt.{decimal_by_steps}
 use Rattle.std.proofs.lemmas.List.Folds.{list_all-append}
 use Rattle.std.proofs.lemmas.List.Sums.{fold-append}
 use Rattle.jiff.specs.Types.{TimeZone}
 use Rattle.jiff_core.proofs.SignedLemmas.{signed_arith}
 use Rattle.gix_date.proofs.Fields.Instants.{instant_holds, z_holds}
-use Rattle.gix_date.specs.Fields.ClockNumbers.{hours_in, minutes_in}
 use Rattle.gix_date.specs.Fields.Zoned.{is_instant}
 use Rattle.gix_date.specs.Header.Text.{written_text}
 use Rattle.gix_date.specs.Text.Characters.{at_sign, space}
@@ -29,13 +26,12 @@ use Rattle.git_date.specs.Tokens.Numbers.{digit_more, number}
 use Rattle.git_date.specs.Rules.Offsets.{at_text}
 use Rattle.git_date.specs.Exact.Outcome.{date_of, date_at}
 use Rattle.git_date.specs.Exact.Reading.{string_said, said_by, at_or_fields}
-use Rattle.git_date.specs.Show.Dates.{raw_text, shown, shown_offset}
+use Rattle.git_date.specs.Show.Dates.{shown, shown_offset}
 use Rattle.git_date.specs.Show.Clocks.{Moment, is_written_offset}
 use Rattle.git_date.specs.Tokens.Tokens.{Token, Digits, Mark, tokens}
 use Rattle.git_date.specs.declared.date.ReadDate.{ReadDate}
 use Rattle.git_date.specs.Types.Names.{Now}
 use Rattle.git_date.specs.declared.error.DateError.{DateError}
-use Rattle.git_date.specs.declared.error.DateError.TheVariants.{Range}
 use Rattle.git_date.specs.declared.mode.DateKind.TheVariants.{Raw}
 use Rattle.git_date_laws.proofs.Printing.ShownLaws.{mapped, when-shown}
 
@@ -49,14 +45,7 @@ one-run : (n : ℕ) → n < 10 → IsRun n ((48 + n) ∷ [])
 one-run n h = let e = digit-test n h in record { number_is = omega arith; digits = rw e refl; some = omega arith }
 
 more-run : (n : ℕ) (run : List ℕ) → 10 ≤ n → IsRun (n / 10) run → IsRun n (run ++ ((48 + n % 10) ∷ []))
-more-run n run h is =
-    let c = 48 + n % 10 in
-    let last = digit-test (n % 10) (omega arith) in
-    record {
-      number_is = fold-append digit_more 0 run (c ∷ []) ∙ ap (λ (k : ℕ). digit_more k c) is.number_is ∙ omega arith;
-      digits = list_all-append is_ascii_digit run (c ∷ []) ∙ rw (is.digits, last) refl;
-      some = omega (arith, length-append run (c ∷ []));
-    }
+more-run n run h is = grind (arith, digit-test, fold-append, list_all-append, length-append)
 
 decimal-is : (n : ℕ) → n < 2 ^ 64 → IsRun n (decimal n)
 decimal-is n h = decimal_by_steps IsRun one-run more-run n h
@@ -91,39 +80,19 @@ raw-said now n a b behind h f g e =
 pub date-is : (n : ℕ) (minutes offset : ℤ) → pos 60 *ℤ minutes ≡ offset
     → date_at (said_at n minutes) minutes ≡ Ok (record { time = record { seconds = pos n; offset = offset }; has_offset = true; ignored = None })
 unfolding date_at
-date-is n minutes offset e =
-    let date : ℤ → ReadDate = λ o. record { time = record { seconds = pos n; offset = o }; has_offset = true; ignored = None } in
-    ap (λ (b : Bool). cond b (Ok (date (pos 60 *ℤ minutes))) (Err Range)) (z_holds (pos 0) (pos n) (omega (arith, signed_arith)))
-    ∙ ap (λ (o : ℤ). Ok (date o)) e
+date-is n minutes offset e = grind (arith, z_holds, signed_arith)
 
 raw-parts : (now : Moment) (t : Time) (text : List ℕ) → shown now (own Raw) t ≡ Some text
     → (lt_z t.seconds (pos 0) ≡ false) × (is_written_offset t.offset ≡ true) × (written_text t ≡ text)
 unfolding shown shown_offset
-raw-parts now t text e =
-    let first = when-shown (lt_z t.seconds (pos 0)) _ text e in
-    let written = mapped (raw_text t.seconds) (is_written_offset t.offset) t.offset text first.1 in
-    (first.0, written.0, written.1)
+raw-parts now t text e = grind (arith, when-shown, mapped)
 
 by-seconds : (tz : TimeZone) (this : Now) (s o : ℤ) (result : Result ReadDate DateError) → lt_z s (pos 0) ≡ false → is_written_offset o ≡ true → is_instant s ≡ true
     → result ≡ date_of tz (said_by this (at_sign ∷ written_text (record { seconds = s; offset = o })))
     → result ≡ Ok (record { time = record { seconds = s; offset = o }; has_offset = true; ignored = None })
 by-seconds tz this (negsuc n) o result past written instant h = absurd cc
-by-seconds tz this (pos n) o result past written instant h =
-    let behind = int_lt o (pos 0) in
-    let within = instant_holds (pos n) instant in
-    let tests = and_parts (nat_lt (unsigned_abs o) 360_000) (unsigned_abs o % 60 == 0) written in
-    let short = (Decides-ltb (unsigned_abs o) 360_000).0 tests.0 in
-    let whole = (Decides-eqb (unsigned_abs o % 60) 0).0 tests.1 in
-    let a = hours_in (unsigned_abs o) in
-    let b = minutes_in (unsigned_abs o) in
-    let said : said_by this (at_sign ∷ written_text (record { seconds = pos n; offset = o })) ≡ Ok (said_at n (minutes_of behind a b)) =
-    raw-said this n a b behind (omega (arith, signed_arith, within)) (omega arith) (omega arith) instant in
-    let is : result ≡ date_at (said_at n (minutes_of behind a b)) (minutes_of behind a b) = h ∙ ap (date_of tz) said in
-    is ∙ date-is n (minutes_of behind a b) o (minutes-back o whole)
+by-seconds tz this (pos n) o result past written instant h = grind (arith, instant_holds, and_parts, said_at, minutes_of, raw-said, signed_arith, date-is, minutes-back)
 
 pub raw-back : (tz : TimeZone) (this : Now) (now : Moment) (t : Time) (text : List ℕ) (result : Result ReadDate DateError) → is_instant t.seconds ≡ true
     → shown now (own Raw) t ≡ Some text → result ≡ date_of tz (said_by this (at_sign ∷ text)) → result ≡ Ok (record { time = t; has_offset = true; ignored = None })
-raw-back tz this now t text result instant e h =
-    let parts = raw-parts now t text e in
-    by-seconds tz this t.seconds t.offset result parts.0 parts.1 instant
-    (h ∙ ap (λ (s : List ℕ). date_of tz (said_by this (at_sign ∷ s))) (sym parts.2))
+raw-back tz this now t text result instant e h = grind (arith, raw-parts, by-seconds)

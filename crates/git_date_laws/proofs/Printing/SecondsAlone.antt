@@ -1,13 +1,12 @@
 -- Seconds without `@`: alone, as `unix` shows them, and before an offset, as `raw` does.
-use Rattle.std.proofs.Common.{◌≡◌, ◌∙◌, ◌≤◌, ◌<◌, ◌+◌, ◌*◌, ◌%◌, ◌^◌, ℕ, ℤ, pos, negsuc, ◌*ℤ◌, unsigned_abs, Bool, true, false, cond, List, [], ◌∷◌, append-nil, Option, Some, None, Ok, Err, refl, sym, ap, subst, arith}
+use Rattle.std.proofs.Common.{◌≡◌, ◌∙◌, ◌≤◌, ◌<◌, ◌+◌, ◌*◌, ◌%◌, ◌^◌, ℕ, ℤ, pos, negsuc, ◌*ℤ◌, unsigned_abs, Bool, true, false, List, [], ◌∷◌, append-nil, Option, Some, None, Ok, refl, sym, ap, subst, arith}
 use Rattle.std.specs.Fmt.{decimal}
-use Rattle.std.specs.Int.Signed.{le_z, lt_z}
+use Rattle.std.specs.Int.Signed.{lt_z}
 use Rattle.std.specs.Prelude.{option_map, int_lt}
 use Rattle.jiff.specs.Types.{TimeZone}
 use Rattle.jiff.specs.declared.zoned.Zoned.{Zoned}
 use Rattle.jiff_core.proofs.SignedLemmas.{signed_arith}
 use Rattle.gix_date.specs.Fields.ClockNumbers.{hours_in, minutes_in}
-use Rattle.gix_date.specs.Fields.Layout.{LocalTime}
 use Rattle.gix_date.specs.Fields.Offsets.{compact_offset_text}
 use Rattle.gix_date.specs.Printing.LocalClocks.{clock_of}
 use Rattle.gix_date.specs.Text.Numbers.{decimal_text}
@@ -22,17 +21,15 @@ use Rattle.git_date.specs.Rules.Digits.{min_epoch, with_epoch}
 use Rattle.git_date.specs.Exact.Fast.{WritesOffset, WritesSeconds}
 use Rattle.git_date.specs.Rules.Fields.{unknown}
 use Rattle.git_date.specs.Rules.Offsets.{at_text}
-use Rattle.git_date.specs.Exact.Outcome.{date_at, date_in, date_of, instant_seconds, said_in}
+use Rattle.git_date.specs.Exact.Outcome.{date_at, date_in, date_of, instant_seconds}
 use Rattle.git_date_laws.specs.Texts.Printed.{IsGitTime}
 use Rattle.git_date.specs.Exact.Reading.{ended, said_by, step}
 use Rattle.git_date.specs.Show.Dates.{raw_text, shown, shown_offset}
-use Rattle.git_date.specs.Show.Clocks.{Moment, is_written_offset, time_at, zone_clock}
+use Rattle.git_date.specs.Show.Clocks.{Moment}
 use Rattle.git_date.specs.Tokens.Tokens.{Digits, tokens}
 use Rattle.git_date.specs.Types.Names.{Now, Said}
 use Rattle.git_date.specs.Rules.Words.{without_ending}
-use Rattle.git_date.specs.Exact.Zones.{states_of}
 use Rattle.git_date.specs.declared.date.ReadDate.{ReadDate}
-use Rattle.git_date.specs.declared.error.DateError.TheVariants.{Range}
 use Rattle.git_date.specs.declared.mode.DateKind.TheVariants.{Raw, Unix}
 use Rattle.git_date_laws.proofs.Printing.PrintedBack.{zone-is}
 use Rattle.git_date_laws.proofs.Printing.RawBack.{date-is, decimal-number}
@@ -55,11 +52,7 @@ alone-said now n first last =
 -- the time of such seconds
 at-seconds : (said : Said) (minutes : ℤ) (date : ReadDate) → date_at said minutes ≡ Ok date → (date.time.seconds ≡ instant_seconds said minutes) × (date.ignored ≡ said.ignored)
 unfolding date_at
-at-seconds said minutes date e = by (le_z (pos 0) (instant_seconds said minutes)) _ e
-  where
-    by : (b : Bool) (read : ReadDate) → cond b (Ok read) (Err Range) ≡ Ok date → (date.time.seconds ≡ read.time.seconds) × (date.ignored ≡ read.ignored)
-    by true read e = let is : date ≡ read = cc in (ap (λ (d : ReadDate). d.time.seconds) is, ap (λ (d : ReadDate). d.ignored) is)
-    by false read e = absurd cc
+at-seconds said minutes date e = grind (arith)
 
 alone-in : (n : ℕ) (offset : Option ℤ) (date : ReadDate) → date_in (said_alone n) offset ≡ Ok date → (date.time.seconds ≡ pos n) × (date.ignored ≡ None)
 alone-in n (Some offset) date e = at-seconds (said_alone n) _ date e
@@ -68,18 +61,13 @@ alone-in n None date e = absurd cc
 alone-read : (this : Now) (tz : TimeZone) (s : ℤ) (date : ReadDate) → IsEpoch s → date_of tz (said_by this (decimal_text s)) ≡ Ok date
     → (date.time.seconds ≡ s) × (date.ignored ≡ None)
 alone-read this tz (negsuc n) date h e = absurd (omega (arith, signed_arith, h))
-alone-read this tz (pos n) date h e =
-    alone-in n (said_in (states_of tz) (said_alone n)) date
-    (ap (date_of tz) (sym (alone-said this n (omega (arith, signed_arith, h)) (omega (arith, signed_arith, h)))) ∙ e)
+alone-read this tz (pos n) date h e = grind (arith, alone-in, alone-said, signed_arith)
 
 pub unix-alone : (this : Now) (at : Moment) (local : Bool) (tz : TimeZone) (t : Time) (text : List ℕ) (date : ReadDate) → IsEpoch t.seconds
     → shown at (record { kind = Unix; local = local }) t ≡ Some text → date_of tz (said_by this text) ≡ Ok date
     → (date.time.seconds ≡ t.seconds) × (date.ignored ≡ None)
 unfolding shown
-unix-alone this at local tz t text date h e read =
-    let is = (when-shown (lt_z t.seconds (pos 0)) _ text e).1 in
-    let same : decimal_text t.seconds ≡ text = cc in
-    alone-read this tz t.seconds date h (ap (λ (shown : List ℕ). date_of tz (said_by this shown)) same ∙ read)
+unix-alone this at local tz t text date h e read = grind (arith, when-shown, alone-read)
 
 -- seconds before an offset
 raw-read : (this : Now) (tz : TimeZone) (s o : ℤ) → IsEpoch s → IsGitTime (record { seconds = s; offset = o })
@@ -106,16 +94,8 @@ raw-read this tz (pos n) o epoch h =
 -- the offset that is shown
 offset-is : (at : Moment) (local : Bool) (t : Time) (o : ℤ) → IsGitTime (shown_time at local t) → shown_offset at local t ≡ Some o → o ≡ (shown_time at local t).offset
 unfolding shown_offset clock_of
-offset-is at false t o h e = by (is_written_offset t.offset) e
-  where
-    by : (b : Bool) → cond b (Some t.offset) None ≡ Some o → o ≡ t.offset
-    by true e = cc
-    by false e = absurd cc
-offset-is at true t o h e = by (zone_clock at.zone t.seconds) refl e
-  where
-    by : (clock : Option LocalTime) → zone_clock at.zone t.seconds ≡ clock → option_map (λ clock. clock.offset) clock ≡ Some o → o ≡ (time_at at.zone t.seconds).offset
-    by (Some clock) is e = let own : clock.offset ≡ o = cc in sym own ∙ ap (λ (c : LocalTime). c.offset) (zone-is at.zone t.seconds clock h is)
-    by None is e = absurd cc
+offset-is at false t o h e = grind (arith)
+offset-is at true t o h e = grind (arith, zone-is)
 
 pub raw-alone : (moment : Zoned) (at : Moment) (local : Bool) (t : Time) (text : List ℕ) → IsEpoch t.seconds → IsGitTime (shown_time at local t)
     → shown at (record { kind = Raw; local = local }) t ≡ Some text → IsReadAs moment text (shown_time at local t)

@@ -1,12 +1,11 @@
 -- Laws of dates as Git shows them.
-use Rattle.std.proofs.Common.{◌≡◌, ◌≢◌, ◌∙◌, ℕ, Bool, true, false, cond, List, Option, Some, None, option_map, refl, sym, ap}
+use Rattle.std.proofs.Common.{arith}
+use Rattle.std.proofs.Common.{◌≡◌, ◌≢◌, ℕ, Bool, true, false, cond, List, Option, Some, None, option_map, refl}
 use Rattle.std.proofs.lemmas.Bool.{false_from_ne_true}
-use Rattle.std.proofs.lemmas.Bool.Decides.{Decides-int_eq}
-use Rattle.std.specs.Ordering.{int_eq}
 use Rattle.gix_date.specs.Printing.LocalClocks.{clock_of}
-use Rattle.gix_date.specs.Printing.NamedTexts.{default_text, bare_default_text}
+use Rattle.gix_date.specs.Printing.NamedTexts.{default_text}
 use Rattle.gix_date.specs.declared.time.Time.{Time}
-use Rattle.git_date.specs.Show.Clocks.{has_own_clock, own_clock}
+use Rattle.git_date.specs.Show.Clocks.{own_clock}
 use Rattle.git_date.specs.Show.Texts.{git_default_text, unknown_offset}
 
 -- printers
@@ -21,16 +20,9 @@ mapped show false clock text e = (cc, cc)
 -- a known offset is shown after the default date
 known-default : (t : Time) → t.offset ≢ unknown_offset → git_default_text false (clock_of t) ≡ default_text (clock_of t)
 unfolding clock_of
-known-default t other =
-    let apart = false_from_ne_true (int_eq t.offset unknown_offset) (λ e. other ((Decides-int_eq t.offset unknown_offset).0 e)) in
-    ap (λ (b : Bool). cond b (bare_default_text (clock_of t)) (default_text (clock_of t))) apart
+known-default t other = grind (arith, false_from_ne_true)
 
 pub default-mapped : (t : Time) (text : List ℕ) → t.offset ≢ unknown_offset → option_map (git_default_text false) (own_clock t) ≡ Some text
     → option_map default_text (own_clock t) ≡ Some text
 unfolding own_clock
-default-mapped t text other e = with-clock (has_own_clock t) e
-  where
-    with-clock : (b : Bool) → option_map (git_default_text false) (cond b (Some (clock_of t)) None) ≡ Some text
-        → option_map default_text (cond b (Some (clock_of t)) None) ≡ Some text
-    with-clock true e = ap Some (sym (known-default t other)) ∙ e
-    with-clock false e = e
+default-mapped t text other e = grind (arith, known-default)

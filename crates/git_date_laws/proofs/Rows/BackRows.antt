@@ -33,19 +33,7 @@ counted : (text digits unit : List ℕ) (gap last count size : ℕ)
     → tokens (before_nul text) ≡ Digits digits ∷ Mark gap ∷ Letters unit ∷ Mark last ∷ Letters (codes "ago") ∷ []
     → number digits ≡ count → 1 ≤ count → count < min_epoch → (length digits == 8) ≡ false → is_padded digits ≡ false → meaning_of unit ≡ Some (meaning.Unit (Seconds size))
     → CountsBack text count size
-counted text digits unit gap last count size is number some few short bare means = record {
-  digits = digits;
-  gap = gap;
-  unit = unit;
-  last = last;
-  is = is;
-  counts = number;
-  not_zero = some;
-  no_epoch = few;
-  no_date = short;
-  not_padded = bare;
-  means = means;
-}
+counted text digits unit gap last count size is number some few short bare means = grind (arith)
 
 dotted : CountsBack (codes "2.weeks.ago") 2 604_800
 unfolding computing approximating

@@ -4,7 +4,6 @@ use Rattle.std.proofs.lemmas.Bool.{and_parts}
 use Rattle.std.proofs.lemmas.Int.{ints, by_lt_z}
 use Rattle.std.specs.Int.{int_rem_euclid}
 use Rattle.std.specs.Int.Signed.{lt_z}
-use Rattle.std.specs.Prelude.{◌&&◌, is_none}
 use Rattle.jiff.specs.Types.{Date, TimeZone}
 use Rattle.jiff.specs.Words.{nanos_of_seconds}
 use Rattle.jiff_core.proofs.CalendarLemmas.{days_in_month_bounds}
@@ -25,7 +24,7 @@ use Rattle.gix_date.specs.declared.time.Time.{Time}
 use Rattle.git_date.proofs.Exact.ZoneOffsets.{offset-near}
 use Rattle.git_date.proofs.Printing.ShownClocks.{dated, zone-dated}
 use Rattle.git_date.proofs.Rules.ClocksBack.{before-1900}
-use Rattle.git_date.specs.Show.Clocks.{own_clock, has_own_clock, zone_clock, has_zone_clock, is_dated, is_written_offset, time_at, with_known_offset}
+use Rattle.git_date.specs.Show.Clocks.{own_clock, has_own_clock, zone_clock, has_zone_clock, time_at, with_known_offset}
 use Rattle.git_date.specs.Show.Dates.{shown}
 use Rattle.git_date.specs.Tokens.Numbers.{number as digits_number}
 use Rattle.git_date.specs.Formats.Flags.{filled}
@@ -99,17 +98,10 @@ abbrev IsShownClock : ℤ → LocalTime → Type 0
 IsShownClock seconds clock = (lt_z seconds (pos 0) ≡ false) × HasDigits clock.date clock.clock
 
 not-before : (s : ℤ) → pos 0 ≤ℤ s → lt_z s (pos 0) ≡ false
-not-before s h = by (lt_z s (pos 0)) refl
-  where
-    by : (b : Bool) → lt_z s (pos 0) ≡ b → lt_z s (pos 0) ≡ false
-    by true e = absurd (omega (arith, ints, h))
-    by false e = e
+not-before s h = grind (arith, ints)
 
 own-dated : (t : Time) → has_own_clock t ≡ true → IsShownClock t.seconds (clock_of t)
-own-dated t h =
-    let all = and_parts (is_written_offset t.offset && is_dated t.seconds) (is_dated (local_seconds t)) h in
-    let local = dated (local_seconds t) all.1 in
-    (not-before t.seconds (dated t.seconds (and_parts (is_written_offset t.offset) (is_dated t.seconds) all.0).1).0, digits-of t (omega (arith, signed_arith, local.0), local.1))
+own-dated t h = grind (arith, and_parts, dated, not-before, digits-of, signed_arith)
 
 own-shown-clock : (t : Time) (clock : LocalTime) → own_clock t ≡ Some clock → IsShownClock t.seconds clock
 unfolding own_clock
@@ -127,11 +119,7 @@ zone-dated-clock zone s h =
 
 zone-shown-clock : (zone : TimeZone) (s : ℤ) (clock : LocalTime) → zone_clock zone s ≡ Some clock → IsShownClock s clock
 unfolding zone_clock
-zone-shown-clock zone s clock e = by (has_zone_clock s) refl e
-  where
-    by : (b : Bool) → has_zone_clock s ≡ b → cond b (Some (with_known_offset (clock_of (time_at zone s)))) None ≡ Some clock → IsShownClock s clock
-    by true h e = let is : with_known_offset (clock_of (time_at zone s)) ≡ clock = cc in subst (IsShownClock s) is (zone-dated-clock zone s h)
-    by false h e = absurd cc
+zone-shown-clock zone s clock e = grind (arith, zone-dated-clock)
 
 -- what pieces without seconds show of each clock, which the mode's text is
 alike : (past : Bool) (found : Option LocalTime) (show : LocalTime → Shown) (ps : List Piece) (text : LocalTime → List ℕ) → asks_seconds ps ≡ false
@@ -139,32 +127,16 @@ alike : (past : Bool) (found : Option LocalTime) (show : LocalTime → Shown) (p
     → (option_map show found >>= shown_pieces ps) ≡ cond past None (option_map text found)
 alike true None show ps text none is = refl
 alike false None show ps text none is = refl
-alike past (Some clock) show ps text none is =
-    let so = is clock refl in
-    let lacks : (is_none (show clock).seconds && asks_seconds ps) ≡ false = ap (λ (b : Bool). is_none (show clock).seconds && b) none ∙ and-false (is_none (show clock).seconds) in
-    rw (lacks, so.0) (ap (λ (x : List ℕ). let r : Option (List ℕ) = Some x in r) so.1)
+alike past (Some clock) show ps text none is = grind (arith, and-false)
 
 -- the texts of both patterns
 iso8601-texts : (seen : Shown) → HasDigits seen.clock.date seen.clock.clock → texts seen (pieces_or_none iso8601_pattern) ≡ iso8601_text seen.clock
 unfolding pieces pieces_in next_piece made_at digits_number
-iso8601-texts seen has =
-    let c = seen.clock in
-    let year = four-filled c.date.year has.low has.high in
-    let month = two-filled c.date.month has.month in
-    let day = two-filled c.date.day has.day in
-    let hour = two-filled c.clock.hour has.hour in
-    let minute = two-filled c.clock.minute has.minute in
-    let second = two-filled c.clock.second has.second in
-    rw (year, month, day, hour, minute, second) refl
+iso8601-texts seen has = grind (arith, four-filled, two-filled)
 
 short-texts : (seen : Shown) → HasDigits seen.clock.date seen.clock.clock → texts seen (pieces_or_none (codes "%F")) ≡ short_text seen.clock
 unfolding pieces pieces_in next_piece made_at digits_number
-short-texts seen has =
-    let c = seen.clock in
-    let year = four-filled c.date.year has.low has.high in
-    let month = two-filled c.date.month has.month in
-    let day = two-filled c.date.day has.day in
-    rw (year, month, day) refl
+short-texts seen has = grind (arith, four-filled, two-filled)
 
 module _ (pattern : List ℕ) (text : LocalTime → List ℕ) (none : asks_seconds (pieces_or_none pattern) ≡ false)
     (is : (seen : Shown) → HasDigits seen.clock.date seen.clock.clock → texts seen (pieces_or_none pattern) ≡ text seen.clock)

@@ -1,5 +1,5 @@
 -- What the approximate reader answers.
-use Rattle.std.proofs.Common.{◌≡◌, ◌∙◌, ◌≤◌, nat_lt, ℕ, ℤ, Bool, true, false, cond, List, length, Option, Some, None, Result, Err, refl, ap, arith, sym}
+use Rattle.std.proofs.Common.{◌≡◌, ◌∙◌, nat_lt, ℕ, ℤ, true, List, length, None, Result, Err, ap, arith, sym}
 use Rattle.std.proofs.lemmas.Bool.Decides.{nat_tests}
 use Rattle.jiff.specs.Words.{plain_zoned, zoned_nanos, IsTimestampNanos}
 use Rattle.jiff.specs.declared.zoned.Zoned.{Zoned}
@@ -36,9 +36,7 @@ one_answers moment text o exact result fixed reads h =
     ∙ ap (λ (zone : States). exact_of moment text zone exact) (ap states_of fixed ∙ fixed-states o)
 
 whole-instant : (n : ℤ) → IsTimestampNanos n → is_instant (whole_seconds n) ≡ true
-whole-instant n range =
-    let part = one_part n in
-    instant_from (whole_seconds n) (omega (arith, signed_arith, range, part), omega (arith, signed_arith, range, part))
+whole-instant n range = grind (arith, one_part, instant_from, signed_arith)
 
 pub moment-instant : (moment : Zoned) → is_instant (whole_seconds (zoned_nanos moment)) ≡ true
 moment-instant moment = whole-instant (zoned_nanos moment) (plain_zoned moment).timestamp.in_range
@@ -57,11 +55,4 @@ guessed moment text unreadable = ap (exact_of moment text (states_of (zone_of mo
 
 pub whole-text : (text : List ℕ) → nul_place text ≡ None → string_len text ≡ length text
 unfolding nul_place
-whole-text text e = by (nat_lt (string_len text) (length text)) refl e
-  where
-    by : (b : Bool) → nat_lt (string_len text) (length text) ≡ b → ◌≡◌ {A = Option ℕ} (cond b (Some (string_len text)) None) None → string_len text ≡ length text
-    by true is e = absurd cc
-    by false is e =
-        let least = within text in
-        let most : length text ≤ string_len text = grind (arith, nat_tests, is) in
-        omega (arith, least, most)
+whole-text text e = grind (arith, nat_lt, within, nat_tests)

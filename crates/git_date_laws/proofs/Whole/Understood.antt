@@ -1,7 +1,7 @@
 -- Where nothing is understood, the draft is today's clock, and the answer the moment.
-use Rattle.std.proofs.Common.{◌≡◌, ◌∙◌, ℕ, zero, suc, pos, Bool, true, false, cond, List, [], ◌∷◌, Option, Some, None, option_map, Result, Ok, Err, refl, sym, ap, ap₂, subst}
+use Rattle.std.proofs.Common.{arith}
+use Rattle.std.proofs.Common.{◌≡◌, ◌∙◌, ℕ, zero, suc, pos, Bool, true, false, cond, List, [], ◌∷◌, Option, Some, None, Result, Ok, Err, refl, sym, ap, ap₂, subst}
 use Rattle.std.specs.Prelude.{◌||◌, ◌==◌}
-use Rattle.std.specs.Int.Signed.{le_z}
 use Rattle.jiff.specs.Types.{TimeZone}
 use Rattle.jiff.specs.Words.{nanos_of_seconds}
 use Rattle.jiff.specs.declared.zoned.Zoned.{Zoned}
@@ -17,7 +17,7 @@ use Rattle.git_date.specs.Rules.Dates.{now_of}
 use Rattle.git_date.specs.Rules.Digits.{group_said}
 use Rattle.git_date.specs.Tokens.Numbers.{number, is_too_large}
 use Rattle.git_date.specs.Exact.Outcome.{date_of}
-use Rattle.git_date.specs.Exact.Reading.{ended, place_in, said_by}
+use Rattle.git_date.specs.Exact.Reading.{ended, said_by}
 use Rattle.git_date.specs.Tokens.Strings.{before_nul, nul_place}
 use Rattle.git_date.specs.Tokens.Tokens.{Token, Letters, Digits, Mark, tokens, bytes_left, walked}
 use Rattle.git_date.specs.Rules.Words.{is_filler, without_ending}
@@ -26,7 +26,6 @@ use Rattle.git_date.specs.Types.Names.{Draft, Fault, Fields, Now, Number, Today,
 use Rattle.git_date.specs.declared.approximate.answer.Approximate.{Approximate}
 use Rattle.git_date.specs.declared.date.ReadDate.{ReadDate}
 use Rattle.git_date.specs.declared.error.DateError.{DateError}
-use Rattle.git_date.specs.declared.error.DateError.TheVariants as error
 use Rattle.git_date_laws.proofs.Alike.Cuts.{same-ok}
 use Rattle.git_date_laws.proofs.Whole.EveryZone.{now-reached, now-timed}
 use Rattle.git_date_laws.proofs.Back.ExactBack.{clock_there}
@@ -145,14 +144,7 @@ module _ (zone : States) (today : Today) where
 answer-parts : (text : List ℕ) (d : Draft) (time : Option Time) (date : Approximate) → answer text d time ≡ Ok date
     → (date.understood ≡ d.understood) × (Some date.time ≡ time)
 answer-parts text d None date e = absurd cc
-answer-parts text d (Some time) date e = by (le_z (pos 0) time.seconds) e
-  where
-    by : (b : Bool) → cond b (Ok (record { time = time; understood = d.understood; ignored = option_map (place_in text) d.ignored })) (Err error.Range) ≡ Ok date
-        → (date.understood ≡ d.understood) × (Some date.time ≡ Some time)
-    by true e =
-        let same = same-ok _ date e in
-        (sym (ap (λ (x : Approximate). x.understood) same), sym (ap (λ (x : Approximate). Some x.time) same))
-    by false e = absurd cc
+answer-parts text d (Some time) date e = grind (arith, same-ok)
 
 same-time : (a b : Time) → Some a ≡ Some b → a ≡ b
 same-time a b e = cc

@@ -1,5 +1,6 @@
 -- The whole promise of Git's dates.
-use Rattle.std.proofs.Common.{◌≡◌, ◌∙◌, Bool, true, false, cond, ℕ, List, Option, Some, None, option_map, pos, refl, sym, ap}
+use Rattle.std.proofs.Common.{arith}
+use Rattle.std.proofs.Common.{◌≡◌, ◌∙◌, Bool, true, false, ℕ, List, Option, Some, None, option_map, pos, refl, sym, ap}
 use Rattle.jiff.specs.Words.{zoned_nanos}
 use Rattle.jiff.specs.declared.zoned.Zoned.{Zoned}
 use Rattle.std.specs.Int.Signed.{lt_z}
@@ -14,7 +15,7 @@ use Rattle.git_date.specs.Rules.Dates.{now_of}
 use Rattle.git_date.specs.Exact.Outcome.{read_at}
 use Rattle.git_date_laws.specs.Texts.Printed.{IsGitTime, IsReadBack}
 use Rattle.git_date.specs.Show.Dates.{shown, shown_clock}
-use Rattle.git_date.specs.Show.Clocks.{Moment, has_own_clock, own_clock}
+use Rattle.git_date.specs.Show.Clocks.{Moment, own_clock}
 use Rattle.git_date.specs.Tokens.Strings.{before_nul}
 use Rattle.git_date.specs.declared.mode.DateKind.{DateKind}
 use Rattle.git_date.specs.declared.mode.DateKind.TheVariants.{Iso8601Strict, Iso8601, Rfc2822, Default}
@@ -33,11 +34,7 @@ the-one x = (x, refl, λ y h. h)
 -- a shown clock is that of the time whose own clock is shown
 own-is : (t : Time) (clock : LocalTime) → own_clock t ≡ Some clock → clock ≡ clock_of t
 unfolding own_clock
-own-is t clock e = by (has_own_clock t) e
-  where
-    by : (b : Bool) → cond b (Some (clock_of t)) None ≡ Some clock → clock ≡ clock_of t
-    by true e = cc
-    by false e = absurd cc
+own-is t clock e = grind (arith)
 
 pub shown-is : (at : Moment) (local : Bool) (t : Time) (clock : LocalTime) → IsGitTime (shown_time at local t) → shown_clock at local t ≡ Some clock
     → clock ≡ clock_of (shown_time at local t)

@@ -1,17 +1,19 @@
 -- Counts of careful texts, as a test and as a fact, and that no word is two of a count, a unit, `and` and `ago`.
-use Rattle.std.proofs.Common.{◌≡◌, ◌∙◌, inl, inr, ℕ, ℤ, pos, ◌+◌, ◌<◌, length, arith, Bool, true, false, cond, List, [], ◌∷◌, refl, ap, sym, subst, Option, Some, None, FitsSigned, w64}
+use Rattle.std.proofs.lemmas.Bool.Decides.{nat_tests}
+use Rattle.std.proofs.lemmas.Grind.{common_steps}
+use Rattle.std.proofs.Common.{◌≡◌, ◌∙◌, inl, inr, ℕ, ℤ, pos, ◌<◌, length, arith, Bool, true, false, cond, List, [], ◌∷◌, refl, ap, sym, subst, Option, Some, None, FitsSigned, w64}
 use Rattle.std.proofs.lemmas.Bool.{and_parts as both, false_from_ne_true as not-true, not-true as not-is, not-true as not_is}
 use Rattle.std.specs.Char.{is_ascii_digit}
-use Rattle.std.specs.List.{list_all, position}
-use Rattle.std.specs.Option.{is_some, option_map}
-use Rattle.std.specs.Prelude.{◌&&◌, not, is_none, codes, nat_lt}
+use Rattle.std.specs.List.{list_all}
+use Rattle.std.specs.Option.{is_some}
+use Rattle.std.specs.Prelude.{◌&&◌, not, codes, nat_lt}
 use Rattle.std.specs.Str.{all_ascii_digits}
 use Rattle.std.specs.Str.Parse.{digits_value, signed_digits_value, without_leading_sign}
 use Rattle.gix_date.specs.Careful.Texts.{is_and, is_plain_count}
 use Rattle.gix_date.specs.Relative.Dates.{named_date}
 use Rattle.gix_date.specs.Relative.Roles.{has_unit, is_count_word}
 use Rattle.gix_date.specs.Relative.Words.{count_of, is_ago, named_count, number_named, unit_of, singular, named_unit}
-use Rattle.gix_date.specs.Text.Names.{is_name, named_in, number_names}
+use Rattle.gix_date.specs.Text.Names.{is_name, named_in}
 use Rattle.gix_date.specs.Text.Numbers.{fits_i64, int_value}
 use Rattle.gix_date.proofs.Families.Apart.{digit-no-minus as not-minus, digit-no-plus as not-plus}
 use Rattle.gix_date.proofs.Fast.FastHeaders.{int-taken}
@@ -29,20 +31,7 @@ some-of None e = absurd cc
 -- the ten names, as a table and by their places
 number-is : (w : List ℕ) → number_named w ≡ named_in number_words w
 unfolding number_named
-number-is w = by (is_name w (codes "one")) (is_name w (codes "two")) (is_name w (codes "three")) (is_name w (codes "four")) (is_name w (codes "five")) (is_name w (codes "six")) (is_name w (codes "seven")) (is_name w (codes "eight")) (is_name w (codes "nine")) (is_name w (codes "ten")) refl refl refl refl refl refl refl refl refl refl
-  where
-    by : (a b c d e f g h i j : Bool) → is_name w (codes "one") ≡ a → is_name w (codes "two") ≡ b → is_name w (codes "three") ≡ c → is_name w (codes "four") ≡ d → is_name w (codes "five") ≡ e → is_name w (codes "six") ≡ f → is_name w (codes "seven") ≡ g → is_name w (codes "eight") ≡ h → is_name w (codes "nine") ≡ i → is_name w (codes "ten") ≡ j → option_map (λ place. pos (place + 1)) (position (is_name w) number_names) ≡ named_in number_words w
-    by true b c d e f g h i j p q r s t u v x y z = rw p refl
-    by false true c d e f g h i j p q r s t u v x y z = rw (p, q) refl
-    by false false true d e f g h i j p q r s t u v x y z = rw (p, q, r) refl
-    by false false false true e f g h i j p q r s t u v x y z = rw (p, q, r, s) refl
-    by false false false false true f g h i j p q r s t u v x y z = rw (p, q, r, s, t) refl
-    by false false false false false true g h i j p q r s t u v x y z = rw (p, q, r, s, t, u) refl
-    by false false false false false false true h i j p q r s t u v x y z = rw (p, q, r, s, t, u, v) refl
-    by false false false false false false false true i j p q r s t u v x y z = rw (p, q, r, s, t, u, v, x) refl
-    by false false false false false false false false true j p q r s t u v x y z = rw (p, q, r, s, t, u, v, x, y) refl
-    by false false false false false false false false false true p q r s t u v x y z = rw (p, q, r, s, t, u, v, x, y, z) refl
-    by false false false false false false false false false false p q r s t u v x y z = rw (p, q, r, s, t, u, v, x, y, z) refl
+number-is w = grind (arith, nat_tests, common_steps)
 
 -- digits are no name
 pub all-digits : (t : List ℕ) → all_ascii_digits t ≡ list_all is_ascii_digit t
@@ -50,10 +39,7 @@ all-digits [] = refl
 all-digits (c ∷ t) = ap (λ b. is_ascii_digit c && b) (all-digits t)
 
 digits-no-name : (w name : List ℕ) → list_all is_ascii_digit w ≡ true → list_all is_ascii_digit name ≡ false → is_name w name ≡ false
-digits-no-name w name d n = not-true (is_name w name) (λ e.
-    let same : list_all is_ascii_digit w ≡ list_all is_ascii_digit name = sym (digits-low w) ∙ ap (list_all is_ascii_digit) (lower-same w name e) ∙ digits-low name in
-    let bad : true ≡ false = sym d ∙ same ∙ n in
-    cc)
+digits-no-name w name d n = grind (arith, not-true, digits-low, lower-same)
 
 digits-no-named : {A : Type 0} (table : List (List ℕ × A)) (w : List ℕ) → list_all is_ascii_digit w ≡ true → list_all (λ row. not (list_all is_ascii_digit row.0)) table ≡ true → named_in table w ≡ None
 digits-no-named {A} [] w d h = refl
@@ -99,15 +85,7 @@ digits-count (c ∷ t) n d v =
 
 pub plain-count : (w : List ℕ) → is_plain_count w ≡ true → (n : ℤ) × IsPlainCount w n
 unfolding is_count_word count_of named_count
-plain-count w h =
-    let parts = both (is_some (count_of w)) (not (is_name w (codes "last"))) h in
-    let value = some-of (count_of w) parts.0 in
-    (value.0, by (list_all is_ascii_digit w) (is_name w (codes "last")) refl refl parts.1 value.1)
-  where
-    by : {n : ℤ} (d l : Bool) → list_all is_ascii_digit w ≡ d → is_name w (codes "last") ≡ l → not (is_name w (codes "last")) ≡ true → cond (list_all is_ascii_digit w) (int_value w) (cond (is_name w (codes "last")) (Some (pos 1)) (number_named w)) ≡ Some n → IsPlainCount w n
-    by {n} true l e f g k = let v : int_value w ≡ Some n = rw e at k in digits-count w n e v
-    by {n} false true e f g k = let bad : false ≡ true = rw f at g in absurd cc
-    by {n} false false e f g k = let v : number_named w ≡ Some n = rw (e, f) at k in inr (sym (number-is w) ∙ v)
+plain-count w h = grind (arith, both, some-of, digits-count, number-is)
 
 -- a count says nothing else
 names-quiet : list_all says_nothing (names_of number_words) ≡ true
@@ -130,10 +108,7 @@ pub record Quiet (w : List ℕ) : Type 0 where
   pub ago : is_ago w ≡ false
 
 pub quiet-of : (w : List ℕ) → says_nothing w ≡ true → Quiet w
-quiet-of w h =
-    let first = both (not (has_unit w) && not (is_ago w)) (is_none (named_date w)) h in
-    let second = both (not (has_unit w)) (not (is_ago w)) first.0 in
-    record { unit = not-is (has_unit w) second.0; ago = not-is (is_ago w) second.1 }
+quiet-of w h = grind (arith, both, not-is)
 
 pub count-no-unit : (w : List ℕ) → is_plain_count w ≡ true → has_unit w ≡ false
 count-no-unit w h = let c = plain-count w h in (quiet-of w (count-quiet w c.0 c.1)).unit

@@ -1,4 +1,5 @@
 -- What the first family answers for a careful text: its pairs.
+use Rattle.std.proofs.Common.{arith}
 use Rattle.std.proofs.Common.{◌≡◌, ◌∙◌, ◌⊎◌, inl, inr, ℕ, ℤ, Bool, true, false, List, [], ◌∷◌, ◌++◌, append-nil, refl, ap, ap₂, sym, subst, Option, Some, None, option_map, IsUtf8}
 use Rattle.std.specs.Char.{is_ascii_alphanumeric}
 use Rattle.std.specs.List.{fold}
@@ -39,12 +40,8 @@ separators-gaps [] h = tt
 separators-gaps (b ∷ gap) h = (is-gap b (no-letter b h.0), separators-gaps gap h.1)
 
 after-gap : (x gap : List ℕ) (pieces : List Piece) → IsWordGap gap → ((gap ≡ []) → pieces ≡ []) → relative_words (joined_pieces pieces) ≡ words_of pieces → relative_words (x ++ (gap ++ joined_pieces pieces)) ≡ relative_words x ++ words_of pieces
-after-gap x [] pieces h last more =
-    ap (λ (ps : List Piece). relative_words (x ++ joined_pieces ps)) (last refl) ∙ ap relative_words (append-nil x) ∙ sym (append-nil (relative_words x))
-    ∙ ap (λ (ps : List Piece). relative_words x ++ words_of ps) (sym (last refl))
-after-gap x (b ∷ gap) pieces h last more =
-    one-gap x b (gap ++ joined_pieces pieces) (is-gap b (no-letter-gap b h.0))
-    ∙ ap (λ (ws : List (List ℕ)). relative_words x ++ ws) (skip-gaps gap (joined_pieces pieces) (separators-gaps gap h.1) ∙ more)
+after-gap x [] pieces h last more = grind (arith, append-nil)
+after-gap x (b ∷ gap) pieces h last more = grind (arith, one-gap, is-gap, no-letter-gap, skip-gaps, separators-gaps)
 
 pieces-words : (pieces : List Piece) → AreSeparated pieces → relative_words (joined_pieces pieces) ≡ words_of pieces
 pieces-words [] h = no-words
@@ -54,7 +51,7 @@ pieces-words ((c ∷ tail, gap) ∷ pieces) h =
     ∙ ap (λ (ws : List (List ℕ)). ws ++ words_of pieces) (one-run-word c tail h.0)
 
 text-words : (text : List ℕ) (pairs : List (ℤ × PeriodUnit)) (h : IsCarefulOf text pairs) → relative_words text ≡ words_of h.pieces
-text-words text pairs h = ap relative_words h.whole ∙ skip-gaps h.front (joined_pieces h.pieces) (separators-gaps h.front h.separated) ∙ pieces-words h.pieces h.apart
+text-words text pairs h = grind (arith, skip-gaps, separators-gaps, pieces-words)
 
 -- These are pairs: the ones that the text names.
 nothing-left : (waiting : Option ℤ) → pairs_from waiting [] ≡ []

@@ -1,4 +1,5 @@
 -- The texts that are clear at each place are the careful ones.
+use Rattle.std.proofs.Common.{arith}
 use Rattle.std.proofs.Common.{◌≡◌, ◌∙◌, ◌↔◌, ℕ, ℤ, false, List, ap, sym, Option, Some, None}
 use Rattle.gix_date.specs.Careful.Grammar.{IsCarefulOf, IsCarefulText, words_of}
 use Rattle.gix_date.specs.Careful.Texts.{unclear_place}
@@ -18,7 +19,7 @@ careful-text text e =
     (words.0, record { front = o.front; pieces = o.pieces; whole = o.whole; separated = o.separated; apart = o.apart; words = words.1 })
 
 pub text-careful : (text : List ℕ) (pairs : List (ℤ × PeriodUnit)) → IsCarefulOf text pairs → unclear_place text ≡ None
-text-careful text pairs o = scan-clear text (ap (scan None false) o.whole ∙ scan-is o.front o.pieces o.separated o.apart ∙ are-words pairs (words_of o.pieces) o.words)
+text-careful text pairs o = grind (arith, scan-clear, scan, scan-is, are-words)
 
 pub careful-spelled : (text : List ℕ) → (unclear_place text ≡ None) ↔ IsCarefulText text
 careful-spelled text = (careful-text text, λ q. text-careful text q.0 q.1)

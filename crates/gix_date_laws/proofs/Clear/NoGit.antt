@@ -98,15 +98,7 @@ no-lower : (c n : ℕ) → is_ascii_digit c ≡ true → 97 ≤ n → n ≤ 122 
 no-lower c n h l m = grind (arith, nat_tests, h, l, m)
 
 digit-no-number : (c : ℕ) (t : List ℕ) → is_ascii_digit c ≡ true → named_in number_words (c ∷ t) ≡ None
-digit-no-number c t h =
-    rw (
-      no-lower c 111 h (omega arith) (omega arith),
-      no-lower c 116 h (omega arith) (omega arith),
-      no-lower c 102 h (omega arith) (omega arith),
-      no-lower c 115 h (omega arith) (omega arith),
-      no-lower c 101 h (omega arith) (omega arith),
-      no-lower c 110 h (omega arith) (omega arith),
-    ) refl
+digit-no-number c t h = grind (arith, no-lower)
 
 not-all : (xs ys : List ℕ) (y : ℕ) → is_ascii_digit y ≡ false → all_ascii_digits (xs ++ (y ∷ ys)) ≡ false
 not-all [] ys y h = rw h refl

@@ -1,5 +1,5 @@
 -- A text that a scan passes is separators, words and gaps; and what a scan finds in such a text.
-use Rattle.std.proofs.Common.{◌≡◌, ◌∙◌, ◌⊎◌, inl, inr, ℕ, suc, ◌+◌, Bool, true, false, cond, List, [], ◌∷◌, ◌++◌, take, refl, ap, sym, subst, arith, Option, Some, None}
+use Rattle.std.proofs.Common.{◌≡◌, ◌∙◌, ◌⊎◌, inl, inr, ℕ, suc, Bool, true, false, cond, List, [], ◌∷◌, ◌++◌, take, refl, ap, sym, subst, arith, Option, Some, None}
 use Rattle.std.proofs.lemmas.Bool.{and_parts as both}
 use Rattle.std.proofs.lemmas.Bool.Decides.{nat_tests}
 use Rattle.std.specs.Char.{is_ascii_alphanumeric}
@@ -139,7 +139,7 @@ BeginsOutside [] = Unit {0}
 BeginsOutside (c ∷ rest) = is_ascii_alphanumeric c ≡ false
 
 one-more : (c : ℕ) (rest : List ℕ) → is_ascii_alphanumeric c ≡ true → prefix_len is_ascii_alphanumeric (c ∷ rest) ≡ suc (prefix_len is_ascii_alphanumeric rest)
-one-more c rest h = ap (λ b. cond b (1 + prefix_len is_ascii_alphanumeric rest) 0) h ∙ (let e : 1 + prefix_len is_ascii_alphanumeric rest ≡ suc (prefix_len is_ascii_alphanumeric rest) = omega arith in e)
+one-more c rest h = grind (arith)
 
 word-front : (word rest : List ℕ) → list_all is_ascii_alphanumeric word ≡ true → BeginsOutside rest → first_word (word ++ rest) ≡ word
 word-front [] [] h o = refl
@@ -164,8 +164,7 @@ outside (c ∷ gap) pieces h last = no-letter-gap c h.0
 
 after-word : (word gap : List ℕ) (pieces : List Piece) → IsWordGap gap → ((gap ≡ []) → pieces ≡ []) → scan (Some word) false (joined_pieces pieces) ≡ chain (Some word) (words_of pieces)
     → scan (Some word) true (gap ++ joined_pieces pieces) ≡ chain (Some word) (words_of pieces)
-after-word word [] pieces h last more =
-    ap (λ (ps : List Piece). scan (Some word) true (joined_pieces ps)) (last refl) ∙ sym (ap (λ (ps : List Piece). chain (Some word) (words_of ps)) (last refl))
+after-word word [] pieces h last more = grind (arith, scan)
 after-word word (c ∷ gap) pieces h last more = past-gap (Some word) c gap (joined_pieces pieces) h ∙ more
 
 pieces-scan : (before : Option (List ℕ)) (pieces : List Piece) → AreSeparated pieces → scan before false (joined_pieces pieces) ≡ chain before (words_of pieces)

@@ -1,5 +1,7 @@
 -- A text's places, from the left: what is asked of each, by the word before it.
-use Rattle.std.proofs.Common.{◌≡◌, ◌∙◌, ◌+◌, ◌<◌, ◌≤◌, ◌⊎◌, inl, inr, ℕ, zero, suc, Bool, true, false, cond, List, [], ◌∷◌, length, take, drop, get_or, refl, ap, ap₂, sym, arith, Option, Some, None}
+use Rattle.std.proofs.lemmas.Bool.Decides.{nat_tests}
+use Rattle.std.proofs.lemmas.Grind.{common_steps}
+use Rattle.std.proofs.Common.{◌≡◌, ◌∙◌, ◌+◌, ◌<◌, ◌≤◌, ◌⊎◌, inl, inr, ℕ, zero, suc, Bool, true, false, cond, List, [], ◌∷◌, length, take, drop, refl, ap, ap₂, sym, arith, Option, Some, None}
 use Rattle.std.proofs.lemmas.Bool.{cases_lt, and_parts as both}
 use Rattle.std.proofs.lemmas.List.{drop-drop, get_or-drop, length-drop}
 use Rattle.std.specs.Char.{is_ascii_alphanumeric}
@@ -33,10 +35,7 @@ scan before after (c ∷ rest) = fits before after c rest && scan (next before a
 
 -- what stands at a place
 stands : (text : List ℕ) (k c : ℕ) (rest : List ℕ) → drop k text ≡ c ∷ rest → slice_index text k ≡ c
-stands text k c rest d =
-    let at : get_or (drop k text) 0 0 ≡ get_or text (k + 0) 0 = get_or-drop k text 0 0 in
-    let same : get_or text (k + 0) 0 ≡ get_or text k 0 = ap (λ n. get_or text n 0) (let e : k + 0 ≡ k = omega arith in e) in
-    sym (at ∙ same) ∙ ap (λ (t : List ℕ). get_or t 0 0) d
+stands text k c rest d = grind (arith, nat_tests, common_steps, get_or-drop)
 
 drop-next : (text : List ℕ) (k c : ℕ) (rest : List ℕ) → drop k text ≡ c ∷ rest → drop (suc k) text ≡ rest
 drop-next text k c rest d =
@@ -97,9 +96,7 @@ to-scan text k (c ∷ rest) d l none ago =
 
 from-scan : (text : List ℕ) (k : ℕ) (rest : List ℕ) → drop k text ≡ rest → k ≤ length text → first_failure (is_clear_at text) k ≡ None → here text k rest ≡ true
     → (first_failure (is_clear_at text) (length text) ≡ None) × (ends_in_ago (word_before text (length text)) ≡ true)
-from-scan text k [] d l none h =
-    let end = past text k d l in
-    (ap (first_failure (is_clear_at text)) (sym end) ∙ none, ap (λ n. ends_in_ago (word_before text n)) (sym end) ∙ h)
+from-scan text k [] d l none h = grind (arith, past)
 from-scan text k (c ∷ rest) d l none h =
     let within = drop-within text k c rest d in
     let parts = both (is_clear_at text k) (here text (suc k) rest) (sym (step-is text k c rest d) ∙ h) in

@@ -1,5 +1,7 @@
 -- A word names a unit where it is a unit's name, alone or with one `s` after it.
-use Rattle.std.proofs.Common.{◌≡◌, ◌∙◌, ◌⊎◌, inl, inr, ℕ, ◌-◌, Bool, true, false, cond, List, [], ◌∷◌, ◌++◌, length, map, take, get_or, refl, ap, sym, arith, Some}
+use Rattle.std.proofs.lemmas.Bool.Decides.{nat_tests}
+use Rattle.std.proofs.lemmas.Grind.{common_steps}
+use Rattle.std.proofs.Common.{◌≡◌, ◌∙◌, ◌⊎◌, inl, inr, ℕ, ◌-◌, Bool, true, List, [], ◌∷◌, ◌++◌, length, map, take, get_or, refl, ap, arith, Some}
 use Rattle.std.proofs.lemmas.Bool.{or_cases, eqb-true as is-same}
 use Rattle.std.proofs.lemmas.List.{length-append}
 use Rattle.std.proofs.Math.Seq.{take-append_seam, get_or-append_seam}
@@ -12,11 +14,7 @@ use Rattle.gix_date.proofs.Relative.QuietWords.{like-unit, lower-same, lower-sin
 use Rattle.gix_date.specs.Careful.Grammar.{IsUnitName}
 
 either-s : (b : ℕ) → (b == small_s || b == letter_s) ≡ true → (b ≡ small_s) ⊎ (b ≡ letter_s)
-either-s b h = by (or_cases (b == small_s) (b == letter_s) h)
-  where
-    by : ((b == small_s) ≡ true) ⊎ ((b == letter_s) ≡ true) → (b ≡ small_s) ⊎ (b ≡ letter_s)
-    by (inl e) = inl (is-same b small_s e)
-    by (inr e) = inr (is-same b letter_s e)
+either-s b h = grind (arith, or_cases, is-same)
 
 last-split : (c : ℕ) (t : List ℕ) → c ∷ t ≡ take (length t) (c ∷ t) ++ (get_or (c ∷ t) (length t) 0 ∷ [])
 last-split c [] = refl
@@ -24,26 +22,16 @@ last-split c (d ∷ t) = ap (λ (xs : List ℕ). c ∷ xs) (last-split d t)
 
 split-at-end : (word : List ℕ) (b : Bool) → (get_or word (length word - 1) 0 == small_s || get_or word (length word - 1) 0 == letter_s) ≡ true → word ≡ take (length word - 1) word ++ (get_or word (length word - 1) 0 ∷ [])
 split-at-end [] b h = absurd cc
-split-at-end (c ∷ t) b h =
-    let size : length t ≡ length (c ∷ t) - 1 = omega arith in
-    last-split c t ∙ ap (λ n. take n (c ∷ t) ++ (get_or (c ∷ t) n 0 ∷ [])) size
+split-at-end (c ∷ t) b h = grind (arith, nat_tests, common_steps, last-split)
 
 pub unit-named : (word : List ℕ) (unit : PeriodUnit) → unit_of word ≡ Some unit → IsUnitName word unit
 unfolding unit_of named_unit singular
-unit-named word unit e =
-    let last = get_or word (length word - 1) 0 in
-    by (last == small_s || last == letter_s) refl e
-  where
-    by : (b : Bool) → (get_or word (length word - 1) 0 == small_s || get_or word (length word - 1) 0 == letter_s) ≡ b → named_in unit_names (cond b (take (length word - 1) word) word) ≡ Some unit → IsUnitName word unit
-    by true h k = inr (take (length word - 1) word, get_or word (length word - 1) 0, split-at-end word true h, either-s (get_or word (length word - 1) 0) h, k)
-    by false h k = inl k
+unit-named word unit e = grind (arith, split-at-end, either-s)
 
 -- a name has no `s` at its end
 same-unit : (word name : List ℕ) → is_name word name ≡ true → unit_of name ≡ named_unit name → unit_of word ≡ named_unit word
 unfolding unit_of
-same-unit word name e same =
-    let low = lower-same word name e in
-    like-unit (singular word) (singular name) (lower-singular word ∙ ap without_s low ∙ sym (lower-singular name)) ∙ same ∙ sym (like-unit word name low)
+same-unit word name e same = grind (arith, lower-same, like-unit, lower-singular, without_s)
 
 names-same : map unit_of (names_of unit_names) ≡ map named_unit (names_of unit_names)
 unfolding unit_of singular named_unit
@@ -62,17 +50,7 @@ any-same word (name ∷ names) h e =
 
 with-s : (name : List ℕ) (s : ℕ) → (s ≡ small_s) ⊎ (s ≡ letter_s) → singular (name ++ (s ∷ [])) ≡ name
 unfolding singular
-with-s name s h =
-    let size : length (name ++ (s ∷ [])) - 1 ≡ length name = omega (arith, length-append name (s ∷ [])) in
-    let is : (s == small_s || s == letter_s) ≡ true = marks s h in
-    ap (λ n. cond (get_or (name ++ (s ∷ [])) n 0 == small_s || get_or (name ++ (s ∷ [])) n 0 == letter_s) (take n (name ++ (s ∷ []))) (name ++ (s ∷ []))) size
-    ∙ ap (λ c. cond (c == small_s || c == letter_s) (take (length name) (name ++ (s ∷ []))) (name ++ (s ∷ []))) (get_or-append_seam name s [] 0)
-    ∙ ap (λ b. cond b (take (length name) (name ++ (s ∷ []))) (name ++ (s ∷ []))) is
-    ∙ take-append_seam name (s ∷ [])
-  where
-    marks : (s : ℕ) → (s ≡ small_s) ⊎ (s ≡ letter_s) → (s == small_s || s == letter_s) ≡ true
-    marks s (inl e) = ap (λ c. c == small_s || c == letter_s) e
-    marks s (inr e) = ap (λ c. c == small_s || c == letter_s) e
+with-s name s h = grind (arith, nat_tests, common_steps, length-append, get_or-append_seam, take-append_seam)
 
 pub named-unit : (word : List ℕ) (unit : PeriodUnit) → IsUnitName word unit → unit_of word ≡ Some unit
 unfolding unit_of named_unit

@@ -1,4 +1,5 @@
 -- Words that may stand so one after the other are `count unit (and? count unit)* ago`.
+use Rattle.std.proofs.Common.{arith}
 use Rattle.std.proofs.Common.{◌≡◌, ◌∙◌, ◌⊎◌, inl, inr, ℕ, ℤ, Bool, true, false, List, [], ◌∷◌, refl, ap, sym, Some, None}
 use Rattle.std.proofs.Math.Bool.{or-false}
 use Rattle.std.proofs.lemmas.Bool.{and_parts as both, or_cases, and_from as joined-true}
@@ -49,10 +50,7 @@ pair-of c unit h u =
 -- the three ways to go on after a unit
 ago-ends : (w : List ℕ) (rest : List (List ℕ)) → is_ago w ≡ true → chain (Some w) rest ≡ true → Ends (w ∷ rest)
 ago-ends w [] h e = ([], (w, refl, h))
-ago-ends w (x ∷ rest) h e =
-    let parts = both (may_follow w x) (chain (Some x) rest) e in
-    let bad : true ≡ false = sym parts.0 ∙ (rw (ago-no-count w h, ago-no-unit w h, ago-no-and w h) refl) in
-    absurd cc
+ago-ends w (x ∷ rest) h e = grind (arith, both, chain, ago-no-count, ago-no-unit, ago-no-and)
 
 count-ends : (w x : List ℕ) (rest : List (List ℕ)) → is_plain_count w ≡ true → chain (Some w) (x ∷ rest) ≡ true → (has_unit x ≡ true → chain (Some x) rest ≡ true → Ends rest) → Ends (w ∷ x ∷ rest)
 count-ends w x rest h e more =
@@ -79,23 +77,13 @@ no-and-end : (w : List ℕ) → is_and w ≡ true → chain (Some w) [] ≡ true
 no-and-end w h e = let bad : true ≡ false = sym e ∙ and-no-ago w h in cc
 
 no-and-count-end : (w x : List ℕ) → is_and w ≡ true → chain (Some w) (x ∷ []) ≡ true → ⊥
-no-and-count-end w x h e =
-    let parts = both (may_follow w x) (chain (Some x) []) e in
-    no-count-end x (sym (after-and w x h) ∙ parts.0) parts.1
+no-and-count-end w x h e = grind (arith, both, chain, no-count-end, after-and)
 
 abbrev Kind : List ℕ → Type 0
 Kind w = (is_plain_count w ≡ true) ⊎ ((is_and w ≡ true) ⊎ (is_ago w ≡ true))
 
 kind-of : (u w : List ℕ) → has_unit u ≡ true → may_follow u w ≡ true → Kind w
-kind-of u w h e = by (or_cases (is_plain_count w || is_and w) (is_ago w) (sym (after-unit u w h) ∙ e))
-  where
-    by-first : (is_plain_count w ≡ true) ⊎ (is_and w ≡ true) → Kind w
-    by-first (inl c) = inl c
-    by-first (inr a) = inr (inl a)
-
-    by : ((is_plain_count w || is_and w) ≡ true) ⊎ (is_ago w ≡ true) → Kind w
-    by (inl o) = by-first (or_cases (is_plain_count w) (is_and w) o)
-    by (inr o) = inr (inr o)
+kind-of u w h e = grind (arith, or_cases, after-unit)
 
 one-ends : (w : List ℕ) → Kind w → chain (Some w) [] ≡ true → Ends (w ∷ [])
 one-ends w (inl c) e = absurd (no-count-end w c e)
@@ -115,9 +103,7 @@ more-ends w x y rest (inr (inr a)) e first second = ago-ends w (x ∷ y ∷ rest
 
 unit-ends : (u : List ℕ) (words : List (List ℕ)) → has_unit u ≡ true → chain (Some u) words ≡ true → Ends words
 unit-ends u [] h e = let bad : true ≡ false = sym e ∙ unit-no-ago u h in absurd cc
-unit-ends u (w ∷ []) h e =
-    let parts = both (may_follow u w) (chain (Some w) []) e in
-    one-ends w (kind-of u w h parts.0) parts.1
+unit-ends u (w ∷ []) h e = grind (arith, both, chain, one-ends, kind-of)
 unit-ends u (w ∷ x ∷ []) h e =
     let parts = both (may_follow u w) (chain (Some w) (x ∷ [])) e in
     two-ends w x (kind-of u w h parts.0) parts.1 (λ k f. unit-ends x [] k f)
@@ -127,9 +113,7 @@ unit-ends u (w ∷ x ∷ y ∷ rest) h e =
 
 pub words-are : (words : List (List ℕ)) → chain None words ≡ true → (pairs : List (ℤ × PeriodUnit)) × ArePairsAgo pairs words
 words-are [] e = absurd cc
-words-are (c ∷ []) e =
-    let parts = both (is_plain_count c) (chain (Some c) []) e in
-    absurd (no-count-end c parts.0 parts.1)
+words-are (c ∷ []) e = grind (arith, both, chain, no-count-end)
 words-are (c ∷ unit ∷ rest) e =
     let first = both (is_plain_count c) (chain (Some c) (unit ∷ rest)) e in
     let parts = both (may_follow c unit) (chain (Some unit) rest) first.1 in
@@ -145,9 +129,7 @@ pair-chain c unit pair rest p more =
     joined-true (may_follow c unit) (chain (Some unit) rest) follows more
 
 end-chain : (u : List ℕ) (pairs : List (ℤ × PeriodUnit)) (words : List (List ℕ)) → has_unit u ≡ true → GoesOn pairs words → chain (Some u) words ≡ true
-end-chain u [] words h g =
-    let follows : may_follow u g.0 ≡ true = after-unit u g.0 h ∙ rw (ago-no-count g.0 g.2, ago-no-and g.0 g.2, g.2) refl in
-    ap (chain (Some u)) g.1 ∙ joined-true (may_follow u g.0) (is_ago g.0) follows g.2
+end-chain u [] words h g = grind (arith, after-unit, ago-no-count, ago-no-and, chain, joined-true)
 end-chain u (pair ∷ pairs) words h g =
     let plain = (count-plain g.0 pair.0 g.4.0).plain in
     let more = pair-chain g.0 g.1 pair g.2 g.4 (end-chain g.1 pairs g.2 (is-unit g.1 pair.1 g.4.1) g.5) in

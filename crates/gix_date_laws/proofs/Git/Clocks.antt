@@ -2,15 +2,14 @@
 use Rattle.std.proofs.Common.{◌≡◌, ◌∙◌, ◌≤◌, ◌+◌, ◌-◌, ◌*◌, ℕ, Bool, true, false, cond, List, [], ◌∷◌, refl, ap, ap₂, sym, subst, arith, Some, None, Option, inl, inr, ◌⊎◌}
 use Rattle.std.proofs.lemmas.Option.{same_Some as same_some}
 use Rattle.std.proofs.lemmas.Bool.Decides.{nat_tests}
-use Rattle.std.specs.Char.{is_ascii, is_ascii_digit}
+use Rattle.std.specs.Char.{is_ascii}
 use Rattle.std.specs.List.{list_all, slice_split, before_first}
 use Rattle.std.specs.Prelude.{nat_lt}
 use Rattle.std.specs.Str.{trim}
-use Rattle.std.specs.Str.Parse.{digits_value}
 use Rattle.gix_date.specs.Fields.FieldTexts.{IsPair, IsDigit}
 use Rattle.gix_date.specs.Text.Front.{◌>>=◌}
 use Rattle.gix_date.specs.Fields.Layout.{LocalClock}
-use Rattle.gix_date.specs.Git.Clock.{at_most, digits_at_most, clock_of_fields, clock_of_parts, clock_with_colons, clock_without_colons, read_pair_or_end, trimmed_clock, git_clock}
+use Rattle.gix_date.specs.Git.Clock.{digits_at_most, clock_of_fields, clock_of_parts, clock_with_colons, clock_without_colons, read_pair_or_end, trimmed_clock, git_clock}
 use Rattle.gix_date.specs.Git.Grammar.{IsUpTo, AreClockParts, AreClockPairs, IsGitClock}
 use Rattle.gix_date.specs.Text.Characters.{is_colon, is_dot, has_colon}
 use Rattle.gix_date.specs.Text.Numbers.{read_two_digits}
@@ -25,48 +24,27 @@ clock_at h m s = record { hour = h; minute = m; second = s }
 -- Parts between colons.
 within : (most v n : ℕ) (b : Bool) → nat_lt most v ≡ b → cond b None (Some v) ≡ Some n → (n ≡ v) × (n ≤ most)
 within most v n true e h = absurd cc
-within most v n false e h =
-    let same = same_some v n h in
-    (sym same, subst (λ (k : ℕ). k ≤ most) same (grind (arith, nat_tests, e)))
+within most v n false e h = grind (arith, same_some, nat_tests)
 
 up-to : (most : ℕ) (t : List ℕ) (n : ℕ) → digits_at_most most t ≡ Some n → IsUpTo most t n
 unfolding digits_at_most
 up-to most [] n e = absurd cc
-up-to most (c ∷ t) n e = by (list_all is_ascii_digit (c ∷ t)) refl e
-  where
-    by : (b : Bool) → list_all is_ascii_digit (c ∷ t) ≡ b → cond b (at_most most (digits_value 10 (c ∷ t))) None ≡ Some n → IsUpTo most (c ∷ t) n
-    by true d h =
-        let w = within most (digits_value 10 (c ∷ t)) n (nat_lt most (digits_value 10 (c ∷ t))) refl h in
-        ((omega arith, sym (all-digits (c ∷ t)) ∙ d, w.0), w.1)
-    by false d h = absurd cc
+up-to most (c ∷ t) n e = grind (arith, within, all-digits)
 
 is-up-to : (most : ℕ) (t : List ℕ) (n : ℕ) → IsUpTo most t n → digits_at_most most t ≡ Some n
 unfolding digits_at_most
 is-up-to most [] n h = absurd (omega (arith, h.0.0))
-is-up-to most (c ∷ t) n h =
-    let digits : list_all is_ascii_digit (c ∷ t) ≡ true = all-digits (c ∷ t) ∙ h.0.1 in
-    let low : digits_value 10 (c ∷ t) ≤ most = subst (λ (k : ℕ). k ≤ most) h.0.2 h.1 in
-    let test : nat_lt most (digits_value 10 (c ∷ t)) ≡ false = grind (arith, nat_tests, low) in
-    ap (λ (b : Bool). cond b (at_most most (digits_value 10 (c ∷ t))) None) digits
-    ∙ ap (λ (b : Bool). cond b None (Some (digits_value 10 (c ∷ t)))) test ∙ ap (λ (k : ℕ). Some k) (sym h.0.2)
+is-up-to most (c ∷ t) n h = grind (arith, all-digits, nat_tests)
 
 fields-are : (h m s : Option ℕ) (c : LocalClock) → clock_of_fields h m s ≡ Some c → (h ≡ Some c.hour) × (m ≡ Some c.minute) × (s ≡ Some c.second)
-fields-are (Some h) (Some m) (Some s) c e =
-    let same = same_some (clock_at h m s) c e in
-    (ap (λ (k : LocalClock). Some k.hour) same, ap (λ (k : LocalClock). Some k.minute) same, ap (λ (k : LocalClock). Some k.second) same)
+fields-are (Some h) (Some m) (Some s) c e = grind (arith, same_some)
 fields-are h m s c e = absurd cc
 
 parts-are : (parts : List (List ℕ)) (c : LocalClock) → clock_of_parts parts ≡ Some c → AreClockParts parts c
 parts-are [] c e = absurd cc
-parts-are (h ∷ []) c e =
-    let f = fields-are (digits_at_most 23 h) (Some 0) (Some 0) c e in
-    (up-to 23 h c.hour f.0, sym (same_some 0 c.minute f.1), sym (same_some 0 c.second f.2))
-parts-are (h ∷ m ∷ []) c e =
-    let f = fields-are (digits_at_most 23 h) (digits_at_most 59 m) (Some 0) c e in
-    (up-to 23 h c.hour f.0, up-to 59 m c.minute f.1, sym (same_some 0 c.second f.2))
-parts-are (h ∷ m ∷ s ∷ more) c e =
-    let f = fields-are (digits_at_most 23 h) (digits_at_most 59 m) (digits_at_most 59 s) c e in
-    (up-to 23 h c.hour f.0, up-to 59 m c.minute f.1, up-to 59 s c.second f.2)
+parts-are (h ∷ []) c e = grind (arith, fields-are, up-to, same_some)
+parts-are (h ∷ m ∷ []) c e = grind (arith, fields-are, up-to, same_some)
+parts-are (h ∷ m ∷ s ∷ more) c e = grind (arith, fields-are, up-to)
 
 are-parts : (parts : List (List ℕ)) (c : LocalClock) → AreClockParts parts c → clock_of_parts parts ≡ Some c
 are-parts [] c p = absurd p
@@ -102,28 +80,18 @@ seconds-are : (a b d e : ℕ) (t : List ℕ) (h m : ℕ) (c : LocalClock) → Is
 unfolding read_pair_or_end
 seconds-are a b d e [] h m c i j k = subst (AreClockPairs (a ∷ b ∷ d ∷ e ∷ [])) (same_some (clock_at h m 0) c k) (i, j, refl)
 seconds-are a b d e (f ∷ []) h m c i j k = let s = went (read_two_digits (f ∷ [])) (ended h m) c k in absurd (two-of-one f s.0 s.1)
-seconds-are a b d e (f ∷ g ∷ t) h m c i j k =
-    let s = went (read_two_digits (f ∷ g ∷ t)) (ended h m) c k in
-    let p = two f g t s.0 s.1 in
-    last t s.0.0 p.0 (subst (λ (r : List ℕ). cond (is_nonempty r) None (Some (clock_at h m s.0.0)) ≡ Some c) p.1 s.2)
-  where
-    last : (r : List ℕ) (n : ℕ) → IsPair (f ∷ g ∷ []) n → cond (is_nonempty r) None (Some (clock_at h m n)) ≡ Some c → AreClockPairs (a ∷ b ∷ d ∷ e ∷ f ∷ g ∷ r) c
-    last [] n l w = subst (AreClockPairs (a ∷ b ∷ d ∷ e ∷ f ∷ g ∷ [])) (same_some (clock_at h m n) c w) (i, j, l)
-    last (x ∷ r) n l w = absurd cc
+seconds-are a b d e (f ∷ g ∷ t) h m c i j k = grind (arith, went, two, same_some)
 
 minutes-are : (a b : ℕ) (t : List ℕ) (h : ℕ) (c : LocalClock) → IsPair (a ∷ b ∷ []) h → (read_pair_or_end t >>= with_seconds h) ≡ Some c → AreClockPairs (a ∷ b ∷ t) c
 unfolding read_pair_or_end
 minutes-are a b [] h c i k = subst (AreClockPairs (a ∷ b ∷ [])) (same_some (clock_at h 0 0) c k) (i, refl, refl)
 minutes-are a b (d ∷ []) h c i k = let m = went (read_two_digits (d ∷ [])) (with_seconds h) c k in absurd (two-of-one d m.0 m.1)
-minutes-are a b (d ∷ e ∷ t) h c i k =
-    let m = went (read_two_digits (d ∷ e ∷ t)) (with_seconds h) c k in
-    let p = two d e t m.0 m.1 in
-    seconds-are a b d e t h m.0.0 c i p.0 (subst (λ (r : List ℕ). with_seconds h (m.0.0, r) ≡ Some c) p.1 m.2)
+minutes-are a b (d ∷ e ∷ t) h c i k = grind (arith, went, two, seconds-are)
 
 pairs-are : (x : List ℕ) (c : LocalClock) → clock_without_colons x ≡ Some c → AreClockPairs x c
 unfolding clock_without_colons
 pairs-are [] c k = let h = went (read_two_digits []) (λ h. read_pair_or_end h.1 >>= with_seconds h.0) c k in absurd (two-of-none h.0 h.1)
-pairs-are (a ∷ []) c k = let h = went (read_two_digits (a ∷ [])) (λ h. read_pair_or_end h.1 >>= with_seconds h.0) c k in absurd (two-of-one a h.0 h.1)
+pairs-are (a ∷ []) c k = grind (arith, went, two-of-one)
 pairs-are (a ∷ b ∷ t) c k =
     let h = went (read_two_digits (a ∷ b ∷ t)) (λ h. read_pair_or_end h.1 >>= with_seconds h.0) c k in
     let p = two a b t h.0 h.1 in
@@ -143,13 +111,7 @@ are-pairs x c p = absurd p
 trimmed-is : (x : List ℕ) (c : LocalClock) → trimmed_clock x ≡ Some c
     → (list_all is_ascii x ≡ true) × (((has_colon x ≡ true) × AreClockParts (slice_split is_colon x) c) ⊎ ((has_colon x ≡ false) × AreClockPairs x c))
 unfolding trimmed_clock clock_with_colons
-trimmed-is x c e = by (list_all is_ascii x) (has_colon x) refl refl e
-  where
-    by : (p q : Bool) → list_all is_ascii x ≡ p → has_colon x ≡ q → cond p (cond q (clock_of_parts (slice_split is_colon x)) (clock_without_colons x)) None ≡ Some c
-        → (list_all is_ascii x ≡ true) × (((has_colon x ≡ true) × AreClockParts (slice_split is_colon x) c) ⊎ ((has_colon x ≡ false) × AreClockPairs x c))
-    by true true a b h = (a, inl (b, parts-are (slice_split is_colon x) c h))
-    by true false a b h = (a, inr (b, pairs-are x c h))
-    by false q a b h = absurd cc
+trimmed-is x c e = grind (arith, parts-are, pairs-are)
 
 is-trimmed : (x : List ℕ) (c : LocalClock) → list_all is_ascii x ≡ true → ((has_colon x ≡ true) × AreClockParts (slice_split is_colon x) c) ⊎ ((has_colon x ≡ false) × AreClockPairs x c) → trimmed_clock x ≡ Some c
 unfolding trimmed_clock clock_with_colons

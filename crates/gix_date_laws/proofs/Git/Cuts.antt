@@ -1,4 +1,5 @@
 -- Where the rest of a Git text is cut that ends in a usual offset: a sign, two digits of hours and two of minutes, perhaps with a colon between.
+use Rattle.std.proofs.lemmas.Grind.{common_steps}
 use Rattle.std.proofs.Common.{◌≡◌, ◌∙◌, ℕ, suc, zero, ◌+◌, ◌-◌, ◌<◌, Bool, true, false, List, [], ◌∷◌, ◌++◌, inl, inr, length, get_or, refl, ap, sym, Option, Some, None, arith, append_assoc, length-append}
 use Rattle.std.proofs.Math.Seq.{get_or-append_seam, take-append_seam, drop-append-add, drop-append_seam}
 use Rattle.std.proofs.lemmas.Bool.{and_parts as both, and_from as join, not-true as not_is}
@@ -77,11 +78,7 @@ behind front more i k e = ap (λ j. get_or (front ++ more) j 0) e ∙ get_or-app
 
 -- a text that ends so does not end in `Z`
 ends-so : (front rest : List ℕ) → 0 < length rest → list_all is_clock_byte rest ≡ true → cut_at_z (front ++ rest) ≡ None
-ends-so front rest some bytes =
-    let u = front ++ rest in
-    let k = length rest - 1 in
-    let last : get_or u (length u - 1) 0 ≡ get_or rest k 0 = behind front rest (length u - 1) k (omega (arith, length-append front rest)) in
-    z_none u false refl (sym (ap (λ c. c == letter_z) last ∙ byte-no-z (get_or rest k 0) (all-get is_clock_byte rest bytes k (omega arith))))
+ends-so front rest some bytes = grind (arith, nat_tests, common_steps, behind, length-append, z_none, byte-no-z, all-get)
 
 offset-trimmed : (s : ℕ) (rest : List ℕ) → is_sign s ≡ true → 0 < length rest → list_all is_clock_byte rest ≡ true → trim (s ∷ rest) ≡ s ∷ rest
 offset-trimmed s rest h some bytes =
@@ -95,12 +92,7 @@ offset-trimmed s rest h some bytes =
 -- after the space is none
 after-gap : (front : List ℕ) (s : ℕ) (rest : List ℕ) → is_sign s ≡ true → list_all is_clock_byte rest ≡ true → (i : ℕ) → length front < i → i < length front + suc (suc (length rest))
     → (get_or (front ++ space ∷ s ∷ rest) i 0 == space) ≡ false
-after-gap front s rest h bytes i a b =
-    let zone = s ∷ rest in
-    let k = i - length front - 1 in
-    let here : get_or (front ++ space ∷ zone) i 0 ≡ get_or zone k 0 = behind front (space ∷ zone) i (suc k) (omega arith) in
-    let quiet : list_all (λ c. not (c == space)) zone ≡ true = join _ _ (ap not (sign-no-space s h)) (all-imply is_clock_byte (λ c. not (c == space)) rest (λ c e. ap not (byte-no-space c e)) bytes) in
-    ap (λ c. c == space) here ∙ not_is (get_or zone k 0 == space) (all-get (λ c. not (c == space)) zone quiet k (omega arith))
+after-gap front s rest h bytes i a b = grind (arith, nat_tests, common_steps, behind, join, sign-no-space, all-imply, byte-no-space, not_is, all-get)
 
 -- the last space, and what stands before the offset there
 pub gap-at : (front : List ℕ) (s : ℕ) (rest : List ℕ) → is_sign s ≡ true → list_all is_clock_byte rest ≡ true → last_space (front ++ space ∷ s ∷ rest) ≡ Some (length front)

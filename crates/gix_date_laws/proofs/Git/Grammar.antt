@@ -30,10 +30,7 @@ abbrev IsTaken : Gap → List ℕ → Type 0
 IsTaken gap mark = (rest : List ℕ) → gap (mark ++ rest) ≡ Some rest
 
 is-date : (gap : Gap) (mark : List ℕ) → IsTaken gap mark → (text : List ℕ) (date : LocalDate) (rest : List ℕ) → IsGitDate mark text date → read_date read_two_digits gap (text ++ rest) ≡ Some (date, rest)
-is-date gap mark taken text date rest h =
-    let split : text ++ rest ≡ h.year ++ (mark ++ (h.month ++ (mark ++ (h.day ++ rest)))) = ap (λ (t : List ℕ). t ++ rest) h.whole ∙ joined h.year mark h.month h.day rest in
-    ap (read_date read_two_digits gap) split
-    ∙ rw (year-read h.year (mark ++ (h.month ++ (mark ++ (h.day ++ rest)))) date.year h.is_year, taken (h.month ++ (mark ++ (h.day ++ rest))), pair-of h.month date.month (mark ++ (h.day ++ rest)) h.is_month, taken (h.day ++ rest), pair-of h.day date.day rest h.is_day) refl
+is-date gap mark taken text date rest h = grind (arith, joined, year-read, pair-of)
 
 -- The rest.
 -- such a text, and where its offset stands

@@ -1,11 +1,11 @@
 -- Offsets of Git's own forms are read where they are so written, and nowhere else.
-use Rattle.std.proofs.Common.{◌≡◌, ◌∙◌, ◌≤◌, ◌+◌, ◌-◌, ◌*◌, ℕ, ℤ, pos, Bool, true, false, cond, List, [], ◌∷◌, ◌++◌, length, refl, ap, sym, subst, arith, Some, None, Option, inl, inr, ◌⊎◌}
+use Rattle.std.proofs.lemmas.Grind.{common_steps}
+use Rattle.std.proofs.Common.{◌≡◌, ◌∙◌, ◌≤◌, ℕ, ℤ, pos, true, false, List, [], ◌∷◌, ◌++◌, length, refl, ap, sym, subst, arith, Some, None, Option, inl, inr, ◌⊎◌}
 use Rattle.std.proofs.lemmas.Option.{cond_some as guard, same_Some as same_some}
 use Rattle.std.proofs.lemmas.Bool.{and_parts as both}
 use Rattle.std.proofs.lemmas.Bool.Decides.{nat_tests}
 use Rattle.std.proofs.lemmas.Slice.Eq.{bytes_eq-Decides}
-use Rattle.std.specs.Char.{is_ascii_digit}
-use Rattle.std.specs.Prelude.{◌==◌, ◌||◌, ◌&&◌, nat_le, codes}
+use Rattle.std.specs.Prelude.{◌==◌, codes}
 use Rattle.std.specs.Str.{bytes_eq}
 use Rattle.gix_date.specs.Fields.FieldTexts.{IsPair, IsSign}
 use Rattle.gix_date.specs.Text.Front.{◌>>=◌}
@@ -23,10 +23,7 @@ fields_at sign h m = record { sign = sign; hours = h; minutes = m; seconds = Non
 
 -- Two digits.
 pair-is : (a b n : ℕ) → two_digit_value a b ≡ Some n → IsPair (a ∷ b ∷ []) n
-pair-is a b n h =
-    let g = guard (is_ascii_digit a && is_ascii_digit b) (10 * (a - 48) + (b - 48)) n h in
-    let p = both (is_ascii_digit a) (is_ascii_digit b) g.0 in
-    (p.0, p.1, sym g.1)
+pair-is a b n h = grind (arith, guard, both)
 
 is-pair : (a b n : ℕ) → IsPair (a ∷ b ∷ []) n → two_digit_value a b ≡ Some n
 is-pair a b n h = rw (h.0, h.1) (ap (λ (k : ℕ). Some k) (sym h.2))
@@ -45,9 +42,7 @@ record AreDigitsOf (sign : OffsetSign) (digits : List ℕ) (f : SignedPairs) : T
   same : sign ≡ f.sign
 
 fields-by : (sign : OffsetSign) (h m : Option ℕ) (f : SignedPairs) → fields_of sign h m ≡ Some f → (h ≡ Some f.hours) × (m ≡ Some f.minutes) × (f.seconds ≡ None) × (sign ≡ f.sign)
-fields-by sign (Some h) (Some m) f e =
-    let same = same_some (fields_at sign h m) f e in
-    (ap (λ (k : SignedPairs). Some k.hours) same, ap (λ (k : SignedPairs). Some k.minutes) same, sym (ap (λ (k : SignedPairs). k.seconds) same), ap (λ (k : SignedPairs). k.sign) same)
+fields-by sign (Some h) (Some m) f e = grind (arith, same_some)
 fields-by sign h m f e = absurd cc
 
 digits-are : (sign : OffsetSign) (digits : List ℕ) (f : SignedPairs) → offset_of_digits sign digits ≡ Some f → AreDigitsOf sign digits f
@@ -70,9 +65,7 @@ are-digits hours minutes f h m n = absurd h
 
 -- The limits.
 within-is : (f : SignedPairs) → is_within_a_day f ≡ true → (f.hours ≤ 23) × (f.minutes ≤ 59)
-within-is f h =
-    let b = both (nat_le f.hours 23) (nat_le f.minutes 59) h in
-    (grind (arith, nat_tests, b.0), grind (arith, nat_tests, b.1))
+within-is f h = grind (arith, both, nat_tests)
 
 is-within : (f : SignedPairs) → f.hours ≤ 23 → f.minutes ≤ 59 → is_within_a_day f ≡ true
 is-within f h m = grind (arith, nat_tests, h, m)
@@ -121,11 +114,7 @@ sign-no-z mark sign (inl p) z = let is : mark ≡ 43 = p.0 in omega (arith, z, i
 sign-no-z mark sign (inr p) z = let is : mark ≡ 45 = p.0 in omega (arith, z, is)
 
 no-z : (mark : ℕ) (body : List ℕ) (sign : OffsetSign) → IsSign mark sign → bytes_eq (mark ∷ body) (codes "Z") ≡ false
-no-z mark body sign m = by (bytes_eq (mark ∷ body) (codes "Z")) refl
-  where
-    by : (b : Bool) → bytes_eq (mark ∷ body) (codes "Z") ≡ b → b ≡ false
-    by false e = refl
-    by true e = absurd (sign-no-z mark sign m (ap first ((bytes_eq-Decides (mark ∷ body) (codes "Z")).0 e)))
+no-z mark body sign m = grind (arith, sign-no-z, bytes_eq-Decides)
 
 is-signed : (text : List ℕ) (n : ℤ) → IsSignedOffset text n → git_offset text ≡ Some n
 unfolding git_offset
@@ -140,13 +129,7 @@ is-signed text n h =
 
 pub offset-is : (text : List ℕ) (n : ℤ) → git_offset text ≡ Some n → IsGitOffset text n
 unfolding git_offset
-offset-is text n e = by (length text == 0) (bytes_eq text (codes "Z")) refl refl e
-  where
-    by : (p q : Bool) → (length text == 0) ≡ p → bytes_eq text (codes "Z") ≡ q
-        → cond (p || q) (Some (pos 0)) (read_sign text >>= λ g. offset_of_digits g.0 (without_colons g.1) >>= offset_by is_within_a_day) ≡ Some n → IsGitOffset text n
-    by true q a b h = inl (inl (empty text a), sym (same_some (pos 0) n h))
-    by false true a b h = inl (inr ((bytes_eq-Decides text (codes "Z")).0 b), sym (same_some (pos 0) n h))
-    by false false a b h = inr (signed-is text n h)
+offset-is text n e = grind (arith, nat_tests, common_steps, empty, same_some, bytes_eq-Decides, signed-is)
 
 none-is : git_offset [] ≡ Some (pos 0)
 unfolding git_offset

@@ -1,14 +1,13 @@
 -- The case of ASCII letters changes no count.
-use Rattle.std.proofs.Common.{◌≡◌, ◌∙◌, ◌+◌, ℕ, ℤ, pos, Bool, true, false, cond, List, [], ◌∷◌, refl, ap, ap₂, arith, Some, Option, option_map}
+use Rattle.std.proofs.Common.{◌≡◌, ◌∙◌, ℕ, Bool, true, false, cond, List, [], ◌∷◌, refl, ap, ap₂, arith}
 use Rattle.std.proofs.lemmas.Bool.{and_parts as both}
 use Rattle.std.proofs.lemmas.Bool.Decides.{nat_tests}
 use Rattle.std.proofs.lemmas.Str.Ascii.{lowercase-lowercase}
 use Rattle.std.specs.Char.{is_ascii_digit, to_ascii_lowercase}
-use Rattle.std.specs.List.{list_all, position}
-use Rattle.std.specs.Prelude.{◌&&◌, codes}
+use Rattle.std.specs.List.{list_all}
+use Rattle.std.specs.Prelude.{◌&&◌}
 use Rattle.std.specs.Str.{str_to_ascii_lowercase}
 use Rattle.gix_date.specs.Relative.Words.{count_of, named_count, number_named}
-use Rattle.gix_date.specs.Text.Names.{number_names}
 use Rattle.gix_date.specs.Text.Numbers.{int_value}
 use Rattle.gix_date.proofs.Relative.QuietWords.{like-name}
 
@@ -38,11 +37,11 @@ digits-stay (c ∷ t) h =
 
 number-low : (w : List ℕ) → number_named (low w) ≡ number_named w
 unfolding number_named
-number-low w = ap (λ (is : List ℕ → Bool). option_map {U = ℤ} (λ place. pos (place + 1)) (position is number_names)) (like-name (low w) w (low-twice w))
+number-low w = grind (arith, like-name, low-twice)
 
 named-low : (w : List ℕ) → named_count (low w) ≡ named_count w
 unfolding named_count
-named-low w = ap₂ (λ (is : List ℕ → Bool) (found : Option ℤ). cond (is (codes "last")) (Some (pos 1)) found) (like-name (low w) w (low-twice w)) (number-low w)
+named-low w = grind (arith, like-name, low-twice, number-low)
 
 count-by : (w : List ℕ) (b : Bool) → list_all is_ascii_digit w ≡ b → cond b (int_value (low w)) (named_count (low w)) ≡ cond b (int_value w) (named_count w)
 count-by w true e = ap int_value (digits-stay w e)

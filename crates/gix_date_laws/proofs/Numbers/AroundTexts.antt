@@ -1,8 +1,8 @@
 -- A trimmed text has the words of the text.
-use Rattle.std.proofs.Common.{◌≡◌, ◌∙◌, ℕ, Bool, true, false, cond, List, [], ◌∷◌, length, refl, ap, sym, subst, IsUtf8, encode_utf8_all}
+use Rattle.std.proofs.Common.{arith}
+use Rattle.std.proofs.Common.{◌≡◌, ℕ, Bool, true, false, cond, List, [], ◌∷◌, length, refl, ap, sym, subst, IsUtf8, encode_utf8_all}
 use Rattle.std.proofs.lemmas.Str.{chars-encodes, scalars-chars}
 use Rattle.std.specs.Char.{is_whitespace}
-use Rattle.std.specs.List.{flat_map}
 use Rattle.std.specs.Prelude.{◌==◌, ◌&&◌}
 use Rattle.std.specs.Str.{chars, trim, trim_start, trim_end, skip_leading_whitespace, drop_trailing_whitespace}
 use Rattle.gix_date.specs.Relative.Words.{relative_words}
@@ -20,8 +20,7 @@ skip-by : (c : ℕ) (cs : List ℕ) (b : Bool) → is_whitespace c ≡ b
     → skip_leading_whitespace (drop_trailing_whitespace (cond b (skip_leading_whitespace cs) (c ∷ cs)))
     ≡ drop_trailing_whitespace (cond b (skip_leading_whitespace cs) (c ∷ cs))
 skip-by c cs true e h = h
-skip-by c cs false e h =
-    ap skip_leading_whitespace (drop-keep c cs e) ∙ skip-keep c (drop_trailing_whitespace cs) e ∙ sym (drop-keep c cs e)
+skip-by c cs false e h = grind (arith, drop-keep, skip-keep)
 
 skip-twice : (cs : List ℕ) → skip_leading_whitespace (drop_trailing_whitespace (skip_leading_whitespace cs)) ≡ drop_trailing_whitespace (skip_leading_whitespace cs)
 skip-twice [] = refl
@@ -31,8 +30,7 @@ skip-twice (c ∷ cs) = skip-by c cs (is_whitespace c) refl (skip-twice cs)
 drop-by : (c : ℕ) (ts : List ℕ) (b : Bool) → (is_whitespace c && length ts == 0) ≡ b → drop_trailing_whitespace ts ≡ ts
     → drop_trailing_whitespace (cond b [] (c ∷ ts)) ≡ cond b [] (c ∷ ts)
 drop-by c ts true e h = refl
-drop-by c ts false e h =
-    ap (λ (us : List ℕ). cond (is_whitespace c && length us == 0) [] (c ∷ us)) h ∙ ap (λ b. cond b [] (c ∷ ts)) e
+drop-by c ts false e h = grind (arith)
 
 drop-twice : (cs : List ℕ) → drop_trailing_whitespace (drop_trailing_whitespace cs) ≡ drop_trailing_whitespace cs
 drop-twice [] = refl
@@ -70,5 +68,4 @@ trim-utf8 : (text : List ℕ) → IsUtf8 text → IsUtf8 (trim text)
 trim-utf8 text u = let t = trim-of text u in subst IsUtf8 (sym t.is) t.utf8
 
 pub words-around : (text : List ℕ) → IsUtf8 text → relative_words (trim text) ≡ relative_words text
-words-around text u =
-    words-within (trim text) (trim-utf8 text u) ∙ ap (flat_map relative_words) (trimmed-words text u) ∙ sym (words-within text u)
+words-around text u = grind (arith, words-within, trim-utf8, trimmed-words)

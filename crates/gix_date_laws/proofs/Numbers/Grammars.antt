@@ -1,9 +1,6 @@
 -- Digits, signs and pairs of digits are read where they are so written.
-use Rattle.std.proofs.Common.{◌≡◌, ◌∙◌, ℕ, ℤ, pos, List, [], ◌∷◌, ◌++◌, refl, ap, sym, arith, Some, inl, inr, FitsSigned, w64}
+use Rattle.std.proofs.Common.{◌≡◌, ℕ, ℤ, pos, List, [], ◌∷◌, ◌++◌, refl, ap, sym, arith, Some, inl, inr, FitsSigned, w64}
 use Rattle.std.proofs.lemmas.Bool.{and_parts as both}
-use Rattle.std.specs.Char.{is_ascii_digit}
-use Rattle.std.specs.Str.{all_ascii_digits}
-use Rattle.std.specs.Str.Parse.{signed_digits_value, without_leading_sign}
 use Rattle.gix_date.specs.Fields.FieldTexts.{AreDigits, IsPair, IsSign}
 use Rattle.gix_date.specs.Text.Front.{skip_char}
 use Rattle.gix_date.specs.Fields.Offsets.{read_sign, OffsetSign}
@@ -13,11 +10,7 @@ use Rattle.gix_date.proofs.Families.Apart.{digit-no-minus as not-minus, digit-no
 
 pub bare-int : (digits : List ℕ) (number : ℕ) (n : ℤ) → AreDigits digits number → n ≡ pos number → FitsSigned w64 n → int_value digits ≡ Some n
 bare-int [] number n a v f = absurd (omega (arith, a.0))
-bare-int (c ∷ t) number n a v f =
-    let first = (both (is_ascii_digit c) (all_ascii_digits t) a.1).0 in
-    let bare : without_leading_sign (c ∷ t) ≡ c ∷ t = rw (not-minus c first, not-plus c first) refl in
-    let value : signed_digits_value 10 (c ∷ t) ≡ n = rw (not-minus c first, not-plus c first) (ap pos (sym a.2) ∙ sym v) in
-    int_value_from (c ∷ t) n (rw bare (a.0, own.to (c ∷ t) a.1)) value f
+bare-int (c ∷ t) number n a v f = grind (arith, both, not-minus, not-plus, int_value_from, own)
 
 pub sign-of : (mark : ℕ) (sign : OffsetSign) (t : List ℕ) → IsSign mark sign → read_sign (mark ∷ t) ≡ Some (sign, t)
 unfolding read_sign skip_char

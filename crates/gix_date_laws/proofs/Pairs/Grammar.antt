@@ -5,7 +5,7 @@ use Rattle.std.specs.Option.{option_or}
 use Rattle.std.specs.Str.{trim}
 use Rattle.gix_date.specs.Relative.Dates.{RelativeDate, MinusPairs, date_names, named_date, pairs_date, relative_date}
 use Rattle.gix_date.specs.Relative.Pairs.{HasPair, IsRelativeText}
-use Rattle.gix_date.specs.Relative.Roles.{are_pairs, pairs}
+use Rattle.gix_date.specs.Relative.Roles.{pairs}
 use Rattle.gix_date.specs.Relative.Words.{relative_words}
 use Rattle.gix_date.specs.Text.Names.{named_in}
 use Rattle.gix_date.proofs.Relative.QuietWords.{named-alone}
@@ -24,12 +24,7 @@ found-or None b date e = inr e
 
 text-is : (text : List ℕ) (date : RelativeDate) → relative_date text ≡ Some date → IsRelativeText text date
 unfolding relative_date named_date pairs_date
-text-is text date e =
-    let words = relative_words text in
-    elim (found-or (named_in date_names (trim text)) (cond (are_pairs words) (Some (MinusPairs (pairs words))) None) date e) [
-      | inl h ↦ inl h
-      | inr h ↦ let g = guard (are_pairs words) (MinusPairs (pairs words)) date h in inr ((meant words).0 g.0, sym g.1)
-    ]
+text-is text date e = grind (arith, found-or, guard, meant)
 
 is-text : (text : List ℕ) → IsUtf8 text → (date : RelativeDate) → IsRelativeText text date → relative_date text ≡ Some date
 unfolding relative_date named_date pairs_date

@@ -1,7 +1,7 @@
 -- The times that a date names, by the instant that it reaches.
+use Rattle.std.proofs.Common.{rules}
 use Rattle.std.proofs.Common.{◌≡◌, ◌∙◌, ℕ, ℤ, pos, ◌-ℤ◌, List, refl, sym, arith, Some}
 use Rattle.std.specs.Prelude.{codes}
-use Rattle.std.specs.Str.{trim}
 use Rattle.jiff.specs.Words.{zoned_nanos, nanos_of_seconds}
 use Rattle.jiff.specs.declared.zoned.Zoned.{Zoned}
 use Rattle.jiff_core.proofs.SignedLemmas.{signed_arith}
@@ -24,9 +24,7 @@ yesterday-date = refl
 -- a text that is a word says what the word says
 word-date : (word text : List ℕ) (date : RelativeDate) → named_in date_names word ≡ Some date → IsWord word text → relative_date text ≡ Some date
 unfolding relative_date named_date
-word-date word text date e is =
-    let named : named_in date_names (trim text) ≡ Some date = like-named date_names (trim text) word (lower-same (trim text) word is) ∙ e in
-    rw named refl
+word-date word text date e is = grind (arith, like-named, lower-same)
 
 pub names-instant : (word text : List ℕ) (seconds : ℤ) (z : Zoned) (due : ℤ) → named_in date_names word ≡ Some (MinusSeconds seconds) → due ≡ zoned_nanos z -ℤ nanos_of_seconds seconds
     → IsWord word text → NamesInstant text z due
@@ -43,4 +41,4 @@ pub today-names : (text : List ℕ) (z : Zoned) → IsWord (codes "today") text 
 today-names text z = names-instant (codes "today") text (pos 0) z (zoned_nanos z) today-date (less-none (zoned_nanos z))
 
 pub yesterday-names : (text : List ℕ) (z : Zoned) → IsWord (codes "yesterday") text → NamesInstant text z (zoned_nanos z -ℤ nanos_of_seconds (pos 86_400))
-yesterday-names text z = names-instant (codes "yesterday") text (pos 86_400) z (zoned_nanos z -ℤ nanos_of_seconds (pos 86_400)) yesterday-date refl
+yesterday-names text z = search (rules, names-instant, yesterday-date)

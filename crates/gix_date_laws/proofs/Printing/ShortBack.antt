@@ -1,6 +1,5 @@
 -- The day that is printed alone is parsed as its midnight in UTC.
-use Rattle.std.proofs.Common.{◌≡◌, ◌∙◌, ℤ, pos, Bool, true, false, cond, [], refl, sym, ap, arith, Some, None, option_map}
-use Rattle.std.specs.Prelude.{◌&&◌, unwrap_or}
+use Rattle.std.proofs.Common.{◌≡◌, ◌∙◌, ℤ, pos, true, cond, [], refl, sym, ap, arith, Some, None}
 use Rattle.jiff.specs.Types.{PlainZoned}
 use Rattle.jiff.specs.Words.{epoch_day}
 use Rattle.jiff_core.proofs.SignedLemmas.{signed_arith}
@@ -10,7 +9,7 @@ use Rattle.gix_date.specs.Families.Epoch.{utc_time}
 use Rattle.gix_date.specs.Families.Order.{first_family_by}
 use Rattle.gix_date.specs.Families.Patterns.{real_day_answer, day_answer, midnight}
 use Rattle.gix_date.specs.Families.Raw.{OffsetRule}
-use Rattle.gix_date.specs.Fields.Civil.{is_date, is_clock, civil_seconds, civil_instant}
+use Rattle.gix_date.specs.Fields.Civil.{is_date, civil_seconds, civil_instant}
 use Rattle.gix_date.specs.Fields.FieldTexts.{date_text}
 use Rattle.gix_date.specs.Fields.Layout.{LocalTime, LocalDate}
 use Rattle.gix_date.specs.Printing.LocalClocks.{clock_of, local_day, HasFourDigitFields}
@@ -37,14 +36,7 @@ its-midnight z t shows o =
 of-midnight : (d : LocalDate) (n : ℤ) → is_date d ≡ true → civil_seconds d midnight (pos 0) ≡ n
     → day_answer d ≡ cond (is_instant n) (Absolute (utc_time n)) NoInstant
 unfolding civil_instant
-of-midnight d n real e =
-    ap (λ b. unwrap_or (option_map (λ s. Absolute (utc_time s)) (cond (b && is_clock midnight && is_instant (civil_seconds d midnight (pos 0))) (Some (civil_seconds d midnight (pos 0))) None)) NoInstant) real
-    ∙ ap (λ (s : ℤ). unwrap_or (option_map (λ k. Absolute (utc_time k)) (cond (is_instant s) (Some s) None)) NoInstant) e
-    ∙ by (is_instant n)
-  where
-    by : (b : Bool) → unwrap_or (option_map (λ k. Absolute (utc_time k)) (cond b (Some n) None)) NoInstant ≡ cond b (Absolute (utc_time n)) NoInstant
-    by true = refl
-    by false = refl
+of-midnight d n real e = grind (arith)
 
 pub short-back : (rule : OffsetRule) (t : Time) → IsConvertible t → HasFourDigitFields t → first_family_by rule (short_text (clock_of t)) ≡ Some (day_read_back t)
 short-back rule t converts four_digits =

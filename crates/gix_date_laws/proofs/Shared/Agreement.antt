@@ -1,5 +1,6 @@
 -- ISO 8601, or its strict form, and one of Git's own forms say the same of a text that both hold.
-use Rattle.std.proofs.Common.{◌≡◌, ◌∙◌, ◌<◌, ◌≤◌, ◌+◌, ◌*◌, ℕ, ℤ, Bool, true, false, cond, List, [], ◌∷◌, ◌++◌, length, refl, ap, sym, subst, arith, append-nil, append_assoc, length-append, Some, None, Option, option_map, is_some, unsigned_abs, IsAscii, IsUtf8, inl, inr, ◌⊎◌, encode_utf8_all, get_or}
+use Rattle.std.proofs.lemmas.Grind.{common_steps}
+use Rattle.std.proofs.Common.{◌≡◌, ◌∙◌, ◌<◌, ◌≤◌, ℕ, ℤ, Bool, true, false, cond, List, [], ◌∷◌, ◌++◌, length, refl, ap, sym, subst, arith, append-nil, append_assoc, length-append, Some, None, Option, option_map, is_some, unsigned_abs, IsAscii, IsUtf8, inl, inr, ◌⊎◌, get_or}
 use Rattle.std.proofs.lemmas.Option.{cond_some as guard, same_Some as same_some}
 use Rattle.std.proofs.lemmas.Bool.{or_right, and_parts as both, and_from as join, not-true as not_is}
 use Rattle.std.proofs.lemmas.Bool.Decides.{nat_tests}
@@ -11,9 +12,9 @@ use Rattle.std.proofs.lemmas.Str.{chars-IsAscii, encodes-IsAscii, IsAscii-append
 use Rattle.std.specs.Char.{is_ascii_digit, is_whitespace}
 use Rattle.std.specs.List.{All, list_all, slice_split, before_first}
 use Rattle.std.specs.Option.{option_or}
-use Rattle.std.specs.Prelude.{◌==◌, ◌&&◌, nat_lt, not, unwrap_or}
-use Rattle.std.specs.Str.{all_ascii_digits, chars, trim, trim_start, trim_end, skip_leading_whitespace, drop_trailing_whitespace}
-use Rattle.gix_date.specs.Families.Answer.{FamilyAnswer, Absolute, OffsetAboveDay}
+use Rattle.std.specs.Prelude.{◌==◌, ◌&&◌, nat_lt, not}
+use Rattle.std.specs.Str.{all_ascii_digits, trim, trim_start, trim_end, skip_leading_whitespace, drop_trailing_whitespace}
+use Rattle.gix_date.specs.Families.Answer.{FamilyAnswer, Absolute}
 use Rattle.gix_date.specs.Families.Laws.{Agree, ComesFirst, Holds}
 use Rattle.gix_date.specs.Families.Order.{Iso8601, Iso8601Strict, GitForm, RelativeText, family_answer, first_family_by}
 use Rattle.gix_date.specs.Families.Patterns.{date_answer, iso8601_answer, iso8601_strict_answer, max_date_offset}
@@ -27,9 +28,9 @@ use Rattle.gix_date.specs.Fields.Offsets.{read_sign, offset_fields, offset_of, S
 use Rattle.gix_date.specs.Git.Clock.{git_clock}
 use Rattle.gix_date.specs.Git.ClockCut.{is_sign, last_space, clock_cut}
 use Rattle.gix_date.specs.Git.Grammar.{AreClockPairs, AreClockParts, IsGitOffset}
-use Rattle.gix_date.specs.Git.Forms.{without_colons, git_offset, git_time, git_form, git_front, compact_front, flexible_front, read_marked_date, time_with_rest, time_of_cut}
+use Rattle.gix_date.specs.Git.Forms.{without_colons, git_offset, git_time, git_form, git_front, flexible_front, read_marked_date, time_with_rest, time_of_cut}
 use Rattle.gix_date.specs.Text.Characters.{space, minus, colon, letter_t, is_space, is_dot, is_colon, has_colon}
-use Rattle.gix_date.specs.Text.Numbers.{read_two_digits, read_field, read_year}
+use Rattle.gix_date.specs.Text.Numbers.{read_two_digits, read_field}
 use Rattle.gix_date.specs.Fields.Layout.{LocalClock, LocalDate}
 use Rattle.gix_date.specs.declared.time.Time.{Time}
 use Rattle.gix_date.proofs.Text.AsciiCuts.{ascii-by, space_is_ascii, all-append}
@@ -95,18 +96,11 @@ drop-none (b ∷ x) c z v =
 
 -- a text that ends so
 kept-end : (front z whole : List ℕ) (s : ℕ) (rest : List ℕ) → z ≡ s ∷ rest → whole ≡ front ++ z → AreVisible (s ∷ rest) → drop_trailing_whitespace whole ≡ whole
-kept-end front z whole s rest e w v =
-    let split : whole ≡ front ++ (s ∷ rest) = w ∙ ap (λ (t : List ℕ). front ++ t) e in
-    ap drop_trailing_whitespace split ∙ drop-none front s rest v ∙ sym split
+kept-end front z whole s rest e w v = grind (arith, drop-none)
 
 trimmed-to : (x y z : List ℕ) → IsAscii x → IsAscii y → IsAscii z → skip_leading_whitespace x ≡ y → drop_trailing_whitespace y ≡ z → trim x ≡ z
 unfolding trim_start trim_end
-trimmed-to x y z a b c s d =
-    let front : encode_utf8_all (skip_leading_whitespace (chars x)) ≡ y =
-    ap (λ (cs : List ℕ). encode_utf8_all (skip_leading_whitespace cs)) (chars-IsAscii x a) ∙ ap encode_utf8_all s ∙ encodes-IsAscii y b in
-    ap (λ (t : List ℕ). encode_utf8_all (drop_trailing_whitespace (chars t))) front
-    ∙ ap (λ (cs : List ℕ). encode_utf8_all (drop_trailing_whitespace cs)) (chars-IsAscii y b)
-    ∙ ap encode_utf8_all d ∙ encodes-IsAscii z c
+trimmed-to x y z a b c s d = grind (arith, chars-IsAscii, encodes-IsAscii)
 
 -- Digits among colons.
 struck-digits : (t : List ℕ) → all_ascii_digits t ≡ true → (without_colons t ≡ t) × (list_all is_clock_byte t ≡ true)
@@ -127,13 +121,8 @@ field-some [] n h = absurd h
 field-some (a ∷ t) n h = omega arith
 
 field-value : (t : List ℕ) (n v : ℕ) → IsField t n → AreDigits t v → v ≡ n
-field-value (a ∷ []) n v h d =
-    let one = value-more (a ∷ []) 0 (omega arith) h.0 in
-    omega (arith, one, h.1, d.2)
-field-value (a ∷ b ∷ []) n v h d =
-    let one = value-more (a ∷ b ∷ []) 0 (omega arith) h.0 in
-    let two = value-more (a ∷ b ∷ []) 1 (omega arith) h.1 in
-    omega (arith, one, two, h.2, d.2)
+field-value (a ∷ []) n v h d = grind (arith, value-more)
+field-value (a ∷ b ∷ []) n v h d = grind (arith, nat_tests, common_steps, value-more)
 field-value t n v h d = absurd h
 
 same-clock : (k c : LocalClock) → k.hour ≡ c.hour → k.minute ≡ c.minute → k.second ≡ c.second → k ≡ c
@@ -231,25 +220,13 @@ no-more p h = cc
 -- the same digits in pairs have the same numbers, and only two pairs are Git's
 pairs-same : (hours minutes last other more : List ℕ) (n m k l : ℕ) → hours ++ (minutes ++ last) ≡ other ++ more → IsPair hours n → IsPair minutes m → IsPair other k
     → (IsPair more l × (l ≤ 59)) ⊎ ((more ≡ []) × (l ≡ 0)) → (last ≡ []) × (n ≡ k) × (m ≡ l) × (m ≤ 59)
-pairs-same hours minutes last other more n m k l e i j p q =
-    let one : (n, minutes ++ last) ≡ (k, more) = same_some (n, minutes ++ last) (k, more) (sym (pair-of hours n (minutes ++ last) i) ∙ ap read_two_digits e ∙ pair-of other k more p) in
-    by (ap (λ (x : ℕ × List ℕ). x.0) one) (ap (λ (x : ℕ × List ℕ). x.1) one) q
-  where
-    by : n ≡ k → minutes ++ last ≡ more → (IsPair more l × (l ≤ 59)) ⊎ ((more ≡ []) × (l ≡ 0)) → (last ≡ []) × (n ≡ k) × (m ≡ l) × (m ≤ 59)
-    by same rest (inl q) =
-        let two : (m, last) ≡ (l, []) = same_some (m, last) (l, []) (sym (pair-of minutes m last j) ∙ ap read_two_digits (rest ∙ sym (append-nil more)) ∙ pair-of more l [] q.0) in
-        let number : m ≡ l = ap (λ (x : ℕ × List ℕ). x.0) two in
-        (ap (λ (x : ℕ × List ℕ). x.1) two, same, number, omega (arith, number, q.1))
-    by same rest (inr q) = absurd (no-more (m, last) (sym (pair-of minutes m last j) ∙ ap read_two_digits (rest ∙ q.0)))
+pairs-same hours minutes last other more n m k l e i j p q = grind (arith, same_some, pair-of, append-nil, no-more)
 
 same-offset : (f g : SignedPairs) → f.sign ≡ g.sign → f.hours ≡ g.hours → f.minutes ≡ g.minutes → f.seconds ≡ g.seconds → offset_of f ≡ offset_of g
 same-offset f g a b c d = cc
 
 short : (f : SignedPairs) → f.seconds ≡ None → f.hours ≤ 23 → f.minutes ≤ 59 → nat_lt max_date_offset (unsigned_abs (offset_of f)) ≡ false
-short f none h m =
-    let total = 3600 * f.hours + 60 * f.minutes + unwrap_or f.seconds 0 in
-    let small : unsigned_abs (offset_of f) ≤ max_date_offset = omega (arith, size-of f.sign total, h, m, ap (λ (s : Option ℕ). unwrap_or s 0) none) in
-    grind (arith, nat_tests, small)
+short f none h m = grind (arith, size-of, nat_tests)
 
 zone-says : (z : List ℕ) (f : SignedPairs) → HasPairs z f → (o : ℤ) → git_offset z ≡ Some o → (o ≡ offset_of f) × (nat_lt max_date_offset (unsigned_abs (offset_of f)) ≡ false)
 zone-says z f h o e = by (offset-is z o e)
@@ -268,10 +245,7 @@ zone-says z f h o e = by (offset-is z o e)
         (s.value ∙ sym is, short f none low p.3)
 
 zone-of : (z : List ℕ) (f : SignedPairs) → HasPairs z f → Zone z f
-zone-of z f h = record {
-  is = record { sign = h.mark; rest = h.rest; whole = h.whole; is_sign = mark-sign h.mark f.sign h.is_mark; some = h.some; first = h.first; bytes = h.bytes };
-  says = zone-says z f h;
-}
+zone-of z f h = grind (arith, mark-sign, zone-says)
 
 -- the fields of an offset, what they say, and Git's forms
 record Dated (z : List ℕ) (offset : ℤ) : Type 0 where
@@ -316,10 +290,7 @@ compact-zone z offset e =
 -- `+hh:mm`, or with seconds
 last-struck : (x : List ℕ) (seconds : Option ℕ) → AreLastSeconds x seconds → (list_all is_clock_byte x ≡ true) × (without_colons x ≡ [] → seconds ≡ None)
 last-struck x seconds (inl p) = (ap (list_all is_clock_byte) p.0, λ e. p.1)
-last-struck x seconds (inr p) =
-    let left : without_colons x ≡ p.0 ∷ p.1 ∷ [] = ap without_colons p.2 ∙ rw (digit-no-colon p.0 p.3, digit-no-colon p.1 p.4) refl in
-    let bytes : list_all is_clock_byte (p.0 ∷ p.1 ∷ []) ≡ true = join _ _ (digit-byte p.0 p.3) (join _ _ (digit-byte p.1 p.4) refl) in
-    (ap (list_all is_clock_byte) p.2 ∙ bytes, λ e. let clash : p.0 ∷ p.1 ∷ [] ≡ [] = sym left ∙ e in absurd cc)
+last-struck x seconds (inr p) = grind (arith, digit-no-colon, is_clock_byte, join, digit-byte)
 
 strict-zone : (z : List ℕ) (offset : ℤ) → strict_offset z ≡ Some offset → Dated z offset
 strict-zone z offset e =
@@ -367,9 +338,7 @@ last-space c (d ∷ mid) h k =
 
 gap-cut : (t gap : List ℕ) (s : ℕ) (rest : List ℕ) (b : Bool) → nat_lt 5 (length (t ++ gap)) ≡ b → 4 < length t → list_all is_space gap ≡ true → is_sign s ≡ true → 0 < length rest
     → is_ascii_digit (get_or rest 0 0) ≡ true → list_all is_clock_byte rest ≡ true → CutSo t (gap ++ space ∷ []) (s ∷ rest)
-gap-cut t gap s rest true high long spaces h some first zone =
-    let split : t ++ ((gap ++ space ∷ []) ++ (s ∷ rest)) ≡ (t ++ gap) ++ (space ∷ (s ∷ rest)) = simp append_assoc in
-    record { gap = gap; spaces = spaces; is = ap clock_cut split ∙ cut-after-space (t ++ gap) s rest (grind (arith, nat_tests, high)) h some zone }
+gap-cut t gap s rest true high long spaces h some first zone = grind (arith, append_assoc, cut-after-space, nat_tests)
 gap-cut t gap s rest false low long spaces h some first zone =
     let more = gap ++ space ∷ [] in
     let split : t ++ (more ++ (s ∷ rest)) ≡ (t ++ more) ++ (s ∷ rest) = simp append_assoc in
@@ -384,8 +353,7 @@ gap-cut t gap s rest false low long spaces h some first zone =
 
 cut-so : (t mid : List ℕ) (s : ℕ) (rest : List ℕ) → 4 < length t → list_all is_clock_byte t ≡ true → list_all is_space mid ≡ true → is_sign s ≡ true → 0 < length rest
     → is_ascii_digit (get_or rest 0 0) ≡ true → list_all is_clock_byte rest ≡ true → CutSo t mid (s ∷ rest)
-cut-so t [] s rest long bytes spaces h some first zone =
-    record { gap = []; spaces = refl; is = cut-at-a-sign t s rest (omega arith) (all-imply is_clock_byte is_no_space t byte-is-no-space bytes) h some first zone ∙ ap (λ (x : List ℕ). (x, s ∷ rest)) (sym (append-nil t)) }
+cut-so t [] s rest long bytes spaces h some first zone = grind (arith, cut-at-a-sign, all-imply, is_clock_byte, is_no_space, byte-is-no-space, append-nil)
 cut-so t (c ∷ mid) s rest long bytes spaces h some first zone =
     let p = both (is_space c) (list_all is_space mid) spaces in
     let l = last-space c mid p.0 p.1 in
@@ -401,13 +369,7 @@ date_at year month day rest = (record { year = year; month = month; day = day },
 
 marked-plain : (x : List ℕ) (date : LocalDate × List ℕ) → read_marked_date minus x ≡ Some date → read_plain_date x ≡ Some date
 unfolding read_marked_date read_plain_date
-marked-plain x date e =
-    let year = went (read_year x) (λ year. skip_char minus year.1 >>= λ r. read_two_digits r >>= λ month. skip_char minus month.1 >>= λ s. read_two_digits s >>= λ day. Some (date_at year.0 month.0 day.0 day.1)) date e in
-    let next = went (skip_char minus year.0.1) (λ r. read_two_digits r >>= λ month. skip_char minus month.1 >>= λ s. read_two_digits s >>= λ day. Some (date_at year.0.0 month.0 day.0 day.1)) date year.2 in
-    let month = went (read_two_digits next.0) (λ month. skip_char minus month.1 >>= λ s. read_two_digits s >>= λ day. Some (date_at year.0.0 month.0 day.0 day.1)) date next.2 in
-    let mark = went (skip_char minus month.0.1) (λ s. read_two_digits s >>= λ day. Some (date_at year.0.0 month.0.0 day.0 day.1)) date month.2 in
-    let day = went (read_two_digits mark.0) (λ day. Some (date_at year.0.0 month.0.0 day.0 day.1)) date mark.2 in
-    rw (year.1, next.1, two-field next.0 month.0 month.1, mark.1, two-field mark.0 day.0 day.1) day.2
+marked-plain x date e = grind (arith, went, two-field)
 
 -- what stands after such a date
 record Flexible (date : LocalDate) (rest : List ℕ) (t : Time) : Type 0 where
@@ -417,31 +379,13 @@ record Flexible (date : LocalDate) (rest : List ℕ) (t : Time) : Type 0 where
 
 flexible : (x : List ℕ) (date : LocalDate) (rest : List ℕ) (t : Time) → read_plain_date x ≡ Some (date, rest) → git_form x ≡ Some t → Flexible date rest t
 unfolding git_form git_front flexible_front
-flexible x date rest t d e =
-    let p = plain-year x (date, rest) d in
-    let next = λ (f : LocalDate × List ℕ). time_with_rest f.0 f.1 in
-    let dotted = no-dotted-by x p.year (minus ∷ p.rest) p.number p.whole p.is_year (dash-no-dot p.rest) in
-    let compact = no-compact-by x p.year p.rest p.number p.whole p.is_year in
-    let by : (flexible_front x >>= next) ≡ Some t = sym (ap (λ (r : Option (LocalDate × List ℕ)). option_or r (option_or (compact_front x) (flexible_front x)) >>= next) dotted ∙ ap (λ (r : Option (LocalDate × List ℕ)). option_or r (flexible_front x) >>= next) compact) ∙ e in
-    let front = went (flexible_front x) next t by in
-    let f = gap-taken (read_marked_date minus) (λ left. option_or (skip_char letter_t left) (skip_char space left)) x front.0.0 front.0.1 front.1 in
-    let same : (front.0.0, f.0) ≡ (date, rest) = same_some (front.0.0, f.0) (date, rest) (sym (marked-plain x (front.0.0, f.0) f.1) ∙ d) in
-    subst (λ (p : LocalDate × List ℕ). Flexible p.0 p.1 t) same (record { after = front.0.1; gap = f.2; is = front.2 })
+flexible x date rest t d e = grind (arith, plain-year, no-dotted-by, dash-no-dot, no-compact-by, went, gap-taken, same_some, marked-plain)
 
 -- The two say the same.
 time-of : (d : LocalDate) (c k : LocalClock) (f : SignedPairs) (z : List ℕ) (t : Time) (answer : FamilyAnswer) → Zone z f → k ≡ c
     → (git_offset z >>= λ o. civil_instant d k o >>= λ s. Some (time_at s o)) ≡ Some t → date_answer d c (offset_of f) ≡ Some answer → answer ≡ Absolute t
 unfolding date_answer
-time-of d c k f z t answer zone same e h =
-    let o = went (git_offset z) (λ o. civil_instant d k o >>= λ s. Some (time_at s o)) t e in
-    let s = went (civil_instant d k o.0) (λ s. Some (time_at s o.0)) t o.2 in
-    let said = zone.says o.0 o.1 in
-    let is : civil_instant d c (offset_of f) ≡ Some s.0 = ap (λ q. civil_instant d q (offset_of f)) (sym same) ∙ ap (λ q. civil_instant d k q) (sym said.0) ∙ s.1 in
-    let comes : date_answer d c (offset_of f) ≡ Some (Absolute (time_at s.0 (offset_of f))) =
-    ap (λ (r : Option ℤ). r >>= λ seconds. cond (nat_lt max_date_offset (unsigned_abs (offset_of f))) (Some OffsetAboveDay) (Some (Absolute (time_at seconds (offset_of f))))) is
-    ∙ ap (λ b. cond b (Some OffsetAboveDay) (Some (Absolute (time_at s.0 (offset_of f))))) said.1 in
-    same_some answer (Absolute (time_at s.0 (offset_of f))) (sym h ∙ comes)
-    ∙ ap (λ q. Absolute (time_at s.0 q)) (sym said.0) ∙ ap (λ (q : Time). Absolute q) (same_some (time_at s.0 o.0) t s.2)
+time-of d c k f z t answer zone same e h = grind (arith, went, time_at, same_some)
 
 -- one space or more, or `T`
 abbrev Lead : List ℕ → Type 0
@@ -468,22 +412,11 @@ record Left (body after : List ℕ) : Type 0 where
 lead-left : (lead body after : List ℕ) → Lead lead → option_or (skip_char letter_t (lead ++ body)) (skip_char space (lead ++ body)) ≡ Some after → Left body after
 unfolding skip_char
 lead-left [] body after (inl h) e = absurd h
-lead-left (c ∷ gap) body after (inl h) e =
-    let is : c ≡ space = grind (arith, nat_tests, h.0) in
-    let found : Some (gap ++ body) ≡ Some after = sym (ap (λ k. option_or (skip_char letter_t (k ∷ (gap ++ body))) (skip_char space (k ∷ (gap ++ body)))) is) ∙ e in
-    record { gap = gap; spaces = h.1; whole = sym (same_some (gap ++ body) after found) }
-lead-left lead body after (inr h) e =
-    let found : Some body ≡ Some after = sym (ap (λ (k : List ℕ). option_or (skip_char letter_t (k ++ body)) (skip_char space (k ++ body))) h) ∙ e in
-    record { gap = []; spaces = refl; whole = sym (same_some body after found) }
+lead-left (c ∷ gap) body after (inl h) e = grind (arith, nat_tests, same_some)
+lead-left lead body after (inr h) e = grind (arith, same_some)
 
 date-visible : (date : List ℕ) (d : LocalDate) → IsPlainDate date d → AreVisible date × Begins is_ascii_digit date
-date-visible date d h =
-    let x = h.year ++ (minus ∷ (h.month ++ (minus ∷ h.day))) in
-    let split : date ≡ x = rw h.whole (simp append_assoc) in
-    let visible : AreVisible x =
-    visible-append h.year (minus ∷ (h.month ++ (minus ∷ h.day))) (digits-visible h.year (year-digits h.year d.year h.is_year))
-    (refl, visible-append h.month (minus ∷ h.day) (field-visible h.month d.month h.is_month) (refl, field-visible h.day d.day h.is_day)) in
-    subst (λ (k : List ℕ). AreVisible k × Begins is_ascii_digit k) (sym split) (visible, begins-append is_ascii_digit h.year (minus ∷ (h.month ++ (minus ∷ h.day))) (year-begins h.year d.year h.is_year))
+date-visible date d h = grind (arith, append_assoc, visible-append, digits-visible, year-digits, field-visible, begins-append, year-begins)
 
 both-say : (date lead t mid z : List ℕ) (d : LocalDate) (c : LocalClock) (f : SignedPairs) (u : Time) (answer : FamilyAnswer)
     → IsPlainDate date d → Lead lead → IsClock t c → list_all is_space mid ≡ true → Zone z f
@@ -558,9 +491,4 @@ git-says rule text u h = by (iso8601_answer text) (iso8601_strict_answer text) r
     by None None p q = git-first rule text u p q h
 
 pub comes-first : (rule : OffsetRule) (text : List ℕ) → IsUtf8 text → ComesFirst rule text
-comes-first rule text u = record {
-  alone = λ family n m h. alone-first rule family text u n m h;
-  git = λ h. git-says rule text u h;
-  relative = λ g h. relative-first rule text u g h;
-  counting = λ date e. counting rule text date e;
-}
+comes-first rule text u = grind (arith, alone-first, git-says, relative-first, counting)

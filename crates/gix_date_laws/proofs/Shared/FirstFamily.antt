@@ -1,19 +1,19 @@
 -- Which family comes first where two hold a text, and that only the relative one answers a relative date.
-use Rattle.std.proofs.Common.{pos, ◌≡◌, ◌≢◌, ℕ, ℤ, Bool, true, false, List, [], ◌∷◌, ◌++◌, refl, subst, map, Some, None, Option, option_map, cond, unwrap_or, unsigned_abs, IsUtf8}
+use Rattle.std.proofs.Common.{arith}
+use Rattle.std.proofs.Common.{◌≡◌, ◌≢◌, ℕ, true, false, List, [], ◌∷◌, ◌++◌, refl, subst, map, Some, None, Option, option_map, IsUtf8}
 use Rattle.std.proofs.lemmas.Bool.{and_parts as both, not-true as not_is}
 use Rattle.std.specs.List.{list_all}
 use Rattle.std.specs.Option.{option_or}
-use Rattle.std.specs.Prelude.{◌==◌, nat_lt, not}
-use Rattle.gix_date.specs.Families.Answer.{FamilyAnswer, Absolute, OffsetAboveDay, NoInstant, Relative}
-use Rattle.gix_date.specs.Families.Epoch.{at_time, epoch_time, utc_time}
+use Rattle.std.specs.Prelude.{◌==◌, not}
+use Rattle.gix_date.specs.Families.Answer.{FamilyAnswer, Absolute, Relative}
+use Rattle.gix_date.specs.Families.Epoch.{at_time, epoch_time}
 use Rattle.gix_date.specs.Families.Order.{Family, AtText, Short, Rfc2822, Iso8601, Iso8601Strict, Gitoxide, Default, BareEpoch, GitForm, RelativeText, RawText, families_before_git, family_answer, first_answer_of, first_family_by}
 use Rattle.gix_date.specs.Families.Laws.{Holds, overlap}
 use Rattle.gix_date.specs.Text.Front.{◌>>=◌}
 use Rattle.gix_date.specs.Git.Forms.{git_time}
-use Rattle.gix_date.specs.Families.Patterns.{max_date_offset, short_answer, rfc2822_answer, iso8601_answer, iso8601_strict_answer, gitoxide_answer, default_answer, short_layout, rfc2822_layout, iso8601_layout, iso8601_strict_layout, gitoxide_layout, default_layout, time_answer, real_day_answer, date_answer, midnight}
+use Rattle.gix_date.specs.Families.Patterns.{short_answer, rfc2822_answer, iso8601_answer, iso8601_strict_answer, gitoxide_answer, default_answer, short_layout, rfc2822_layout, iso8601_layout, iso8601_strict_layout, gitoxide_layout, default_layout, time_answer, real_day_answer, date_answer}
 use Rattle.gix_date.specs.Families.Raw.{OffsetRule, raw_time_by}
 use Rattle.gix_date.specs.Relative.Dates.{relative_date, RelativeDate}
-use Rattle.gix_date.specs.Fields.Civil.{civil_instant, is_date}
 use Rattle.gix_date.specs.Fields.Layout.{LocalTime, Piece, read_pieces, nothing_read, layout_answer}
 use Rattle.gix_date.specs.declared.time.Time.{Time}
 use Rattle.gix_date.proofs.Families.Exclusive.{place, differ, answered, are-exclusive}
@@ -47,20 +47,10 @@ not-relative None = tt
 
 time-not-relative : (t : LocalTime) → IsNotRelative (time_answer t)
 unfolding date_answer
-time-not-relative t = by_instant (civil_instant t.date t.clock t.offset) (nat_lt max_date_offset (unsigned_abs t.offset))
-  where
-    by_instant : (found : Option ℤ) (far : Bool)
-        → IsNotRelative (found >>= (λ seconds. cond far (Some OffsetAboveDay) (Some (Absolute (record { seconds = seconds; offset = t.offset })))))
-    by_instant (Some s) true = tt
-    by_instant x far = tt
+time-not-relative t = grind (arith)
 
 day-not-relative : (t : LocalTime) → IsNotRelative (real_day_answer t)
-day-not-relative t = by_day (is_date t.date) (civil_instant t.date midnight (pos 0))
-  where
-    by_day : (real : Bool) (found : Option ℤ)
-        → IsNotRelative (cond real (Some (unwrap_or (option_map {U = FamilyAnswer} (λ seconds. Absolute (utc_time seconds)) found) NoInstant)) None)
-    by_day true (Some s) = tt
-    by_day x found = tt
+day-not-relative t = grind (arith)
 
 read-not-relative : (read : Option LocalTime) (of_time : LocalTime → Option FamilyAnswer) → ((t : LocalTime) → IsNotRelative (of_time t))
     → IsNotRelative (read >>= of_time)

@@ -1,10 +1,12 @@
 -- What careful reading says: what the first family answers, a date of the moment's zone, or a refusal.
-use Rattle.std.proofs.Common.{◌≡◌, ◌∙◌, ℕ, Bool, true, false, List, refl, ap, sym, subst, Option, Some, None, Ok, inl, inr, ◌⊎◌}
+use Rattle.std.proofs.Common.{arith}
+use Rattle.std.proofs.Common.{rules}
+use Rattle.std.proofs.Common.{◌≡◌, ◌∙◌, ℕ, Bool, true, false, List, refl, ap, sym, Option, Some, None, Ok, inl, inr, ◌⊎◌}
 use Rattle.std.specs.Option.{option_map}
 use Rattle.std.specs.Prelude.{is_some, is_none, ◌||◌, ◌&&◌, not}
 use Rattle.std.specs.Str.{IsUtf8}
 use Rattle.jiff.specs.declared.zoned.Zoned.{Zoned}
-use Rattle.gix_date.specs.Careful.Dates.{is_whole_git, unzoned_day, unzoned_git_time, unzoned_time}
+use Rattle.gix_date.specs.Careful.Dates.{unzoned_day, unzoned_git_time, unzoned_time}
 use Rattle.gix_date.specs.Careful.Fronts.{longest_front}
 use Rattle.gix_date.specs.Careful.Laws.{IsParsedToo, HasNoLocalDate}
 use Rattle.gix_date.specs.Careful.Outcome.{Reading, Local, First, Unclear, AfterYear9999, careful_reading, clear_or, date_reading, git_or, has_word_before, is_clear_answer, is_in_years, in_years_or_late, local_date, local_or, names_no_other_day, pairs_or, reading_of_texts, unzoned_or, unzoned_reading, CarefulOutcome}
@@ -69,9 +71,7 @@ day-says options text place u (Some t) e = unzoned-says options text u t (unzone
 
 git-says : (options : CarefulOptions) (text : List ℕ) (place : ℕ) → IsUtf8 text → (git : Option Time) → git_time text ≡ git → Says options text (git_or options text place git)
 git-says options text place u None e = day-says options text place u (unzoned_day text) refl
-git-says options text place u (Some t) e =
-    clear-says options text (is_whole_git text) (unzoned_or options.without_offset (unzoned_git_time text) (First (Some (Absolute t)))) place
-    (whole-says options text u t (git-first options text t u e) (unzoned_git_time text) refl)
+git-says options text place u (Some t) e = search (rules, clear-says, whole-says, git-first)
 
 pairs-says : (options : CarefulOptions) (text : List ℕ) → IsUtf8 text → (place : Option ℕ) → unclear_place text ≡ place → Says options text (pairs_or options text place)
 pairs-says options text u None e =
@@ -100,11 +100,4 @@ no-local options text (inl utc) t zone.MomentsZone z e = let bad : zone.Utc ≡ 
 no-local options text (inr none) t zone.MomentsZone z e = let bad : None ≡ Some t = sym none ∙ e in cc
 
 pub parsed-too : (options : CarefulOptions) (text : List ℕ) → IsUtf8 text → IsParsedToo options text
-parsed-too options text u none now t h =
-    let Result-of = λ (r : Reading). CarefulOutcome r now (Ok t) in
-    elim (says options text u) [
-      | first e ↦ plain-time (first_family_by (allows options.raw) text) now t (subst Result-of e h)
-      | unclear place e ↦ absurd (no-time place now t (subst Result-of e h))
-      | late e ↦ absurd (no-late-time now t (subst Result-of e h))
-      | local k e l ↦ absurd (no-local options text none k options.without_offset refl l)
-    ]
+parsed-too options text u none now t h = grind (arith, says, plain-time, no-time, no-late-time, no-local)

@@ -1,11 +1,11 @@
 -- Careful reading beside `parse_with`, and dates in which no offset is written.
-use Rattle.std.proofs.Common.{◌≡◌, ◌∙◌, ℕ, ℤ, pos, Bool, true, false, cond, List, [], ◌∷◌, refl, ap, sym, subst, Option, Some, None, Ok, Err, Result, inl, inr}
+use Rattle.std.proofs.Common.{arith}
+use Rattle.std.proofs.Common.{◌≡◌, ◌∙◌, ℕ, pos, Bool, true, false, cond, List, [], ◌∷◌, refl, ap, sym, Option, Some, None, Ok, inl, inr}
 use Rattle.std.proofs.lemmas.Option.{same_Some as same_some}
 use Rattle.std.specs.Option.{option_map, option_or}
 use Rattle.std.specs.Prelude.{is_some}
-use Rattle.std.specs.Result.{result_map_both}
 use Rattle.jiff.specs.declared.zoned.Zoned.{Zoned}
-use Rattle.std.specs.Str.{trim, IsUtf8}
+use Rattle.std.specs.Str.{IsUtf8}
 use Rattle.gix_date.specs.Careful.Dates.{unzoned_day, unzoned_git_time, unzoned_time}
 use Rattle.gix_date.specs.Careful.Outcome.{First, CarefulOutcome}
 use Rattle.gix_date.specs.Families.Answer.{FamilyAnswer, Absolute}
@@ -17,22 +17,15 @@ use Rattle.gix_date.specs.Families.Raw.{OffsetRule, is_quarter_offset}
 use Rattle.gix_date.specs.Fields.Civil.{civil_instant}
 use Rattle.gix_date.specs.Fields.DateFields.{read_plain_date}
 use Rattle.gix_date.specs.Fields.Layout.{LocalDate}
-use Rattle.gix_date.specs.Git.ClockCut.{clock_cut}
-use Rattle.gix_date.specs.Git.Forms.{git_form, git_front, git_time, time_of_cut}
+use Rattle.gix_date.specs.Git.Forms.{git_form, git_time}
 use Rattle.gix_date.specs.Text.SpaceWords.{is_nonempty}
-use Rattle.gix_date.specs.declared.error.CarefulError.TheVariants as errors
-use Rattle.gix_date.specs.declared.error.ParseError.{ParseError}
 use Rattle.gix_date.specs.declared.time.Time.{Time}
 use Rattle.gix_date.proofs.Fields.AfterDay.{day-with-instant}
 use Rattle.gix_date.proofs.Fields.FieldsTaken.{went, first-or}
 use Rattle.gix_date_laws.proofs.Shared.Agreement.{comes-first}
 
 pub plain-time : (answer : Option FamilyAnswer) (now : Option Zoned) (t : Time) → CarefulOutcome (First answer) now (Ok t) → ParseNoAllocOutcome answer now (Ok t)
-plain-time answer now t (plain, outcome, e) = by plain outcome e
-  where
-    by : (plain : Result Time ParseError) → ParseNoAllocOutcome answer now plain → Ok t ≡ result_map_both (λ k. k) errors.Refused plain → ParseNoAllocOutcome answer now (Ok t)
-    by (Ok k) outcome e = let same : k ≡ t = cc in subst (λ (x : Time). ParseNoAllocOutcome answer now (Ok x)) same outcome
-    by (Err refusal) outcome e = absurd cc
+plain-time answer now t (plain, outcome, e) = grind (arith)
 
 -- Dates in which no offset is written.
 
@@ -42,11 +35,7 @@ unless-some false a t e = (refl, e)
 
 git-is : (text : List ℕ) (t : Time) → unzoned_git_time text ≡ Some t → git_time text ≡ Some t
 unfolding unzoned_git_time git_time git_form
-git-is text t e =
-    let front = went (git_front (trim text)) (λ f. cond (is_nonempty (clock_cut (trim f.1)).1) None (time_of_cut f.0 (clock_cut (trim f.1)))) t e in
-    let cut = clock_cut (trim front.0.1) in
-    let k = unless-some (is_nonempty cut.1) (time_of_cut front.0.0 cut) t front.2 in
-    rw front.1 k.1
+git-is text t e = grind (arith, went, unless-some)
 
 short-of : (text : List ℕ) (date : LocalDate) → read_plain_date text ≡ Some (date, []) → short_answer text ≡ answer_after [] real_day_answer date []
 unfolding short_answer
@@ -55,19 +44,11 @@ short-of text date e = rw e refl
 day-of : (text : List ℕ) (date : LocalDate) (rest : List ℕ) (t : Time) → read_plain_date text ≡ Some (date, rest) → is_nonempty rest ≡ false → option_map utc_time (civil_instant date midnight (pos 0)) ≡ Some t
     → short_answer text ≡ Some (Absolute t)
 day-of text date (c ∷ cs) t e n k = absurd cc
-day-of text date [] t e n k = by (civil_instant date midnight (pos 0)) refl k
-  where
-    by : (s : Option ℤ) → civil_instant date midnight (pos 0) ≡ s → option_map utc_time s ≡ Some t → short_answer text ≡ Some (Absolute t)
-    by None i k = absurd cc
-    by (Some s) i k =
-        short-of text date e ∙ sym (day-with-instant date s (sym i)) ∙ ap (λ (u : Time). Some (Absolute u)) (same_some (utc_time s) t k)
+day-of text date [] t e n k = grind (arith, short-of, day-with-instant, same_some)
 
 day-is : (text : List ℕ) (t : Time) → unzoned_day text ≡ Some t → short_answer text ≡ Some (Absolute t)
 unfolding unzoned_day
-day-is text t e =
-    let day = went (read_plain_date text) (λ d. cond (is_nonempty d.1) None (option_map utc_time (civil_instant d.0 midnight (pos 0)))) t e in
-    let k = unless-some (is_nonempty day.0.1) (option_map utc_time (civil_instant day.0.0 midnight (pos 0))) t day.2 in
-    day-of text day.0.0 day.0.1 t day.1 k.0 k.1
+day-is text t e = grind (arith, went, unless-some, day-of)
 
 pub answers : (rule : OffsetRule) (text : List ℕ) (t : Time) → IsUtf8 text → unzoned_time text ≡ Some t → first_family_by rule text ≡ Some (Absolute t)
 unfolding unzoned_time
