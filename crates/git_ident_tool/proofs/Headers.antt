@@ -1,11 +1,11 @@
 -- The lines of an object's own header.
-use Rattle.std.proofs.Common.{◌≡◌, ◌≢◌, ◌∙◌, ◌<◌, ℕ, Bool, true, false, List, [], ◌∷◌, ◌++◌, length, refl, ap, append_assoc, arith, cond}
+use Rattle.std.proofs.Common.{◌≡◌, ◌≢◌, ◌∙◌, ◌<◌, ℕ, true, false, List, [], ◌∷◌, ◌++◌, length, refl, ap, append_assoc, arith}
 use Rattle.std.proofs.lemmas.Bool.{ne_eqb}
 use Rattle.std.proofs.lemmas.Bool.Decides.{nat_tests}
 use Rattle.std.proofs.lemmas.List.Elements.{All-cons, All-head, All-nil, All-tail}
 use Rattle.std.proofs.lemmas.List.Splits.{slice_split_at, slice_split_none}
 use Rattle.std.proofs.lemmas.List.Sums.{take_while-cons}
-use Rattle.std.specs.List.{flat_map, slice_split}
+use Rattle.std.specs.List.{flat_map}
 use Rattle.std.specs.Prelude.{All, take_while}
 use Rattle.gix_date.specs.Text.Characters.{newline}
 use Rattle.gix_date_tool.specs.Lines.{IsLine, with_newline}
@@ -24,14 +24,10 @@ filled line h = grind (arith, nat_tests, h)
 
 -- a line with a byte is the first
 first-line : (line : List ℕ) (parts : List (List ℕ)) → 0 < length line → take_while is_filled (line ∷ parts) ≡ line ∷ take_while is_filled parts
-first-line line parts h =
-    take_while-cons is_filled line parts ∙ ap (λ (b : Bool). cond b (line ∷ take_while is_filled parts) []) (filled line h)
+first-line line parts h = grind (arith, take_while-cons, filled)
 
 pub own-line : (line rest : List ℕ) → IsFilledLine line → own_header (with_newline line ++ rest) ≡ line ∷ own_header rest
-own-line line rest h =
-    ap own_header (append_assoc line (newline ∷ []) rest)
-    ∙ ap (take_while is_filled) (slice_split_at is_newline line newline rest (no-newline line h.0) refl)
-    ∙ first-line line (slice_split is_newline rest) h.1
+own-line line rest h = grind (arith, append_assoc, slice_split_at, no-newline, first-line)
 
 -- the lines that stand at the front
 pub own-lines : (lines : List (List ℕ)) (rest : List ℕ) → All IsFilledLine lines → own_header (flat_map with_newline lines ++ rest) ≡ lines ++ own_header rest

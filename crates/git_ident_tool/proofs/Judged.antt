@@ -1,4 +1,5 @@
 -- Objects judged one after the other.
+use Rattle.std.proofs.Common.{rules}
 use Rattle.std.proofs.Common.{◌≡◌, ◌∙◌, ◌+◌, ◌<◌, ◌≤◌, ℕ, suc, Bool, true, false, ◌&&◌, List, [], ◌∷◌, ◌++◌, length, take, refl, sym, ap, ap₂, subst, append_assoc, append-nil, length-append, arith, Option, None, Some, Ok, Err, All}
 use Rattle.std.proofs.lemmas.List.{nil_from_length}
 use Rattle.std.proofs.lemmas.List.Concat.{flat_map-append}
@@ -147,10 +148,7 @@ first-lines telling id said source sink = record {
 }
 
 one-more : (part line : List ℕ) (lines : List (List ℕ)) → part ≡ flat_map with_newline lines → part ++ with_newline line ≡ flat_map with_newline (lines ++ line ∷ [])
-one-more part line lines whole =
-    ap (λ (xs : List ℕ). xs ++ with_newline line) whole
-    ∙ ap (λ (xs : List ℕ). flat_map with_newline lines ++ xs) (sym (append-nil (with_newline line)))
-    ∙ sym (flat_map-append with_newline lines (line ∷ []))
+one-more part line lines whole = grind (arith, append-nil, flat_map-append)
 
 -- a line of the header was read, with its newline, and judged
 pub next-line : (telling : Telling) (id : List ℕ) (said : Header) (a b c : StreamState) (x y z : StreamState) (line : List ℕ) (clean one : Bool) (left less : ℕ)
@@ -183,18 +181,7 @@ looked-at Blob contents h = cc
 pub ends-header : (telling : Telling) (id : List ℕ) (said : Header) (a b c : StreamState) (x y : StreamState) (line : List ℕ) (clean : Bool) (left less : ℕ)
     → has_own_header said.kind ≡ true → LinesSoFar telling id said (flow (change a b) (change x y)) (clean, left) → ReadsLine left b c line (Ok Newline) → line ≡ []
     → less + (length line + 1) ≡ left → JudgesAll telling id said (flow (change a c) (change x y)) (clean, less)
-ends-header telling id said a b c x y line clean left less has far read none fewer = record {
-  part = far.part ++ newline ∷ [];
-  lines = far.lines;
-  given = Gives-more a b c far.part (newline ∷ []) far.given (subst (λ (l : List ℕ). Gives b c (with_newline l)) none read.ends.0);
-  counted = omega (arith, length-append far.part (newline ∷ []), far.counted, fewer, ap length none);
-  settled = λ beyond fits.
-      looked-at said.kind ((far.part ++ newline ∷ []) ++ beyond) has
-      ∙ ap own_header (append_assoc far.part (newline ∷ []) beyond ∙ ap (λ (xs : List ℕ). xs ++ newline ∷ beyond) far.whole)
-      ∙ own-lines far.lines (newline ∷ beyond) far.each ∙ append-nil far.lines;
-  wrote = far.wrote;
-  clean = far.clean;
-}
+ends-header telling id said a b c x y line clean left less has far read none fewer = grind (arith, Gives-more, length-append, looked-at, append_assoc, own-lines, append-nil)
 
 nothing-beyond : (part beyond : List ℕ) → length (part ++ beyond) ≡ length part → beyond ≡ []
 nothing-beyond part beyond e = nil_from_length beyond (omega (arith, length-append part beyond, e))
@@ -229,15 +216,7 @@ ends-object telling id said a b c x y z line clean one left has far read told =
 pub stops-early : (telling : Telling) (id : List ℕ) (said : Header) (a b c : StreamState) (x y : StreamState) (line : List ℕ) (answer : Bool × ℕ)
     → LinesSoFar telling id said (flow (change a b) (change x y)) answer → ReadsLine answer.1 b c line (Ok Input)
     → JudgesPart telling id said (flow (change a c) (change x y)) (Stream EarlyEnd)
-stops-early telling id said a b c x y line answer far read = record {
-  part = far.part ++ line;
-  lines = far.lines;
-  given = Gives-more a b c far.part line far.given read.ends.0;
-  within = omega (arith, length-append far.part line, far.counted, read.ends.1);
-  stops = (line, read.is_line, record { whole = ap (λ (xs : List ℕ). xs ++ line) far.whole; each = far.each });
-  wrote = far.wrote;
-  cause = read.ends.2;
-}
+stops-early telling id said a b c x y line answer far read = search (rules, Gives-more, length-append)
 
 pub stops-reading : (telling : Telling) (id : List ℕ) (said : Header) (a b c : StreamState) (x y : StreamState) (line : List ℕ) (answer : Bool × ℕ) (fault : ToolError)
     → LinesSoFar telling id said (flow (change a b) (change x y)) answer → ReadsLine answer.1 b c line (Err fault)
@@ -309,5 +288,4 @@ own-with (b ∷ bs) filled part lines whole each =
 -- and one that ends with the object
 pub own-without : (line : List ℕ) → IsLine line → (part : List ℕ) (lines : List (List ℕ)) → part ≡ flat_map with_newline lines → All IsFilledLine lines
     → own_header (part ++ line) ≡ lines ++ last_line line
-own-without line is_line part lines whole each =
-    ap (λ (xs : List ℕ). own_header (xs ++ line)) whole ∙ own-lines lines line each ∙ ap (λ (more : List (List ℕ)). lines ++ more) (own-rest line is_line)
+own-without line is_line part lines whole each = grind (arith, own-lines, own-rest)

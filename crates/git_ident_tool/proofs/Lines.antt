@@ -1,4 +1,8 @@
 -- The lines of an input judged, which stand in no object.
+use Rattle.std.proofs.Common.{arith}
+use Rattle.std.proofs.lemmas.Bool.Decides.{nat_tests}
+use Rattle.std.proofs.lemmas.Grind.{common_steps}
+use Rattle.std.proofs.Common.{rules}
 use Rattle.std.proofs.Common.{◌≡◌, ◌≢◌, ◌∙◌, inl, inr, ◌+◌, ℕ, Bool, true, false, ◌&&◌, List, [], ◌∷◌, ◌++◌, length, refl, sym, ap, ap₂, subst, append-nil, length-append, Option, None, Some, Result, Ok, Err, All}
 use Rattle.std.proofs.lemmas.List.Concat.{flat_map-append}
 use Rattle.std.proofs.lemmas.List.Elements.{All-append, All-cons, All-nil}
@@ -21,7 +25,7 @@ use Rattle.git_ident_tool.specs.declared.error.StreamFault.TheVariants.{TooMany}
 use Rattle.git_ident_tool.specs.declared.judging.objects.TheConstants.{MAX_OBJECTS}
 use Rattle.git_ident_tool.specs.declared.judging.verdicts.Telling.{Telling}
 use Rattle.git_ident_tool.specs.declared.stream.cursor.LineEnd.TheVariants.{Newline, Full, Input}
-use Rattle.git_ident_tool.proofs.Judged.{Appends-nil, Gives-more, Takes-more, Prefix-more}
+use Rattle.git_ident_tool.proofs.Judged.{Gives-more, Takes-more, Prefix-more}
 use Rattle.git_ident_tool.proofs.Streams.{ahead, at, fresh, none-ahead, source-causes, source-over}
 
 -- these lines were judged
@@ -34,14 +38,7 @@ pub record LinesFar (telling : Telling) (f : Flow) (clean : Bool) (count : ℕ) 
   pub counted : length lines ≡ count
 
 pub first-text : (telling : Telling) (source sink : StreamState) (unread : List ℕ) → unread ≡ [] → LinesFar telling (flow (change source (at unread source)) (change sink sink)) true 0
-first-text telling source sink unread none = record {
-  lines = [];
-  each = All-nil IsLine;
-  given = fresh source.bytes unread none;
-  wrote = Appends-nil sink.bytes;
-  clean_is = refl;
-  counted = refl;
-}
+first-text telling source sink unread none = grind (arith, nat_tests, common_steps, fresh)
 
 and-true : (b : Bool) → (b && true) ≡ b
 and-true true = refl
@@ -102,16 +99,14 @@ stops-lines telling a b source x z unread rest lines judged fault given each mor
 pub stops-long : (telling : Telling) (a b source x y : StreamState) (unread rest : List ℕ) (clean : Bool) (count : ℕ)
     → LinesFar telling (flow (change a b) (change x y)) clean count → ReadsLine (MAX_LINE_LEN + 1) b (at unread source) rest (Ok Full)
     → StopsAfterLines telling (flow (change a source) (change x y)) (Tool errors.LineTooLong)
-stops-long telling a b source x y unread rest clean count far read =
-    stops-lines telling a b source x y unread rest far.lines far.lines (Tool errors.LineTooLong) far.given far.each read.ends.0 read.is_line (refl, read.ends.1) far.wrote tt
+stops-long telling a b source x y unread rest clean count far read = search (rules, stops-lines)
 
 pub stops-reading-text : (telling : Telling) (a b source x y : StreamState) (unread rest : List ℕ) (clean : Bool) (count most : ℕ) (fault : ToolError)
     → LinesFar telling (flow (change a b) (change x y)) clean count → ReadsLine most b (at unread source) rest (Err fault)
     → StopsAfterLines telling (flow (change a source) (change x y)) (Tool fault)
 stops-reading-text telling a b source x y unread rest clean count most errors.Memory far read =
     stops-lines telling a b source x y unread rest far.lines far.lines (Tool errors.Memory) far.given far.each read.ends.0 read.is_line (inl refl) far.wrote tt
-stops-reading-text telling a b source x y unread rest clean count most (errors.Read kind) far read =
-    stops-lines telling a b source x y unread rest far.lines far.lines (Tool (errors.Read kind)) far.given far.each read.ends.0 read.is_line refl far.wrote read.ends.2
+stops-reading-text telling a b source x y unread rest clean count most (errors.Read kind) far read = search (rules, stops-lines)
 stops-reading-text telling a b source x y unread rest clean count most (errors.Write kind) far read = absurd read.ends
 stops-reading-text telling a b source x y unread rest clean count most errors.LineTooLong far read = absurd read.ends
 stops-reading-text telling a b source x y unread rest clean count most errors.TooManyLines far read = absurd read.ends
@@ -172,8 +167,8 @@ stops-telling-rest telling a b source x y z unread rest clean count most (Stream
 pub rest-ends : (telling : Telling) (a b source x y z : StreamState) (unread rest : List ℕ) (clean : Bool) (count most : ℕ) (result : Result Bool Fault)
     → LinesFar telling (flow (change a b) (change x y)) clean count → ReadsLine most b (at unread source) rest (Ok Input) → JudgesRest telling rest clean (change y z) result
     → JudgesLines telling (flow (change a source) (change x z)) result
-rest-ends telling a b source x y z unread rest clean count most (Ok all) far read judged = ends-lines telling a b source x y z unread rest clean all count most far read judged
-rest-ends telling a b source x y z unread rest clean count most (Err fault) far read judged = stops-telling-rest telling a b source x y z unread rest clean count most fault far read judged
+rest-ends telling a b source x y z unread rest clean count most (Ok all) far read judged = search (rules, ends-lines)
+rest-ends telling a b source x y z unread rest clean count most (Err fault) far read judged = search (rules, stops-telling-rest)
 
 -- there are too many lines
 pub stops-full-lines : (telling : Telling) (a source x y : StreamState) (unread : List ℕ) (clean : Bool) (count : ℕ)

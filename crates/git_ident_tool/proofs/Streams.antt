@@ -1,4 +1,7 @@
 -- The objects of a stream judged one after the other.
+use Rattle.std.proofs.lemmas.Bool.Decides.{nat_tests}
+use Rattle.std.proofs.lemmas.Grind.{common_steps}
+use Rattle.std.proofs.Common.{rules}
 use Rattle.std.proofs.Common.{◌≡◌, ◌≢◌, ◌∙◌, ◌⊎◌, inl, inr, ◌+◌, ◌<◌, ℕ, Bool, true, false, ◌&&◌, List, [], ◌∷◌, ◌++◌, length, refl, sym, ap, ap₂, subst, append_assoc, append-nil, length-append, arith, Option, None, Some, Ok, Err}
 use Rattle.std.proofs.lemmas.List.Concat.{flat_map-append}
 use Rattle.std.proofs.lemmas.List.Elements.{All-append, All-cons, All-head, All-nil}
@@ -52,24 +55,8 @@ skips-to-byte left a b c line h read = record {
 -- a fault came at that byte, which was not read
 pub skips-to-fault : (left : ℕ) (a b c : StreamState) (line : List ℕ) (fault : ToolError) → Skips left a b (Ok true) → ReadsLine 1 b c line (Err fault)
     → StopsInRest left (change a c) (Tool fault)
-skips-to-fault left a b c line errors.Memory h read = record {
-  rest = h.bytes;
-  beyond = [];
-  given = Gives-more a b c h.bytes [] h.given (subst (Gives b c) (no-bytes line (read.ends.2 (omega arith))) read.ends.0);
-  within = omega (arith, h.ends);
-  is_beyond = refl;
-  of_input = tt;
-  cause = tt;
-}
-skips-to-fault left a b c line (errors.Read kind) h read = record {
-  rest = h.bytes;
-  beyond = [];
-  given = Gives-more a b c h.bytes [] h.given (subst (Gives b c) (no-bytes line read.ends.1) read.ends.0);
-  within = omega (arith, h.ends);
-  is_beyond = refl;
-  of_input = tt;
-  cause = read.ends.2;
-}
+skips-to-fault left a b c line errors.Memory h read = grind (arith, nat_tests, common_steps, no-bytes)
+skips-to-fault left a b c line (errors.Read kind) h read = grind (arith, nat_tests, common_steps, no-bytes)
 skips-to-fault left a b c line (errors.Write kind) h read = absurd read.ends
 skips-to-fault left a b c line errors.LineTooLong h read = absurd read.ends
 skips-to-fault left a b c line errors.TooManyLines h read = absurd read.ends
@@ -251,10 +238,8 @@ stops-header telling a b source x y unread front clean count fault far given is_
 pub stops-reading-header : (telling : Telling) (a b source x y : StreamState) (unread front : List ℕ) (clean : Bool) (count : ℕ) (fault : ToolError)
     → ObjectsSoFar telling (flow (change a b) (change x y)) clean count → ReadsLine MAX_LINE_LEN b (at unread source) front (Err fault)
     → StopsAfterObjects telling (flow (change a source) (change x y)) (Tool fault)
-stops-reading-header telling a b source x y unread front clean count errors.Memory far read =
-    stops-header telling a b source x y unread front clean count (Tool errors.Memory) far read.ends.0 read.is_line tt tt tt
-stops-reading-header telling a b source x y unread front clean count (errors.Read kind) far read =
-    stops-header telling a b source x y unread front clean count (Tool (errors.Read kind)) far read.ends.0 read.is_line tt tt read.ends.2
+stops-reading-header telling a b source x y unread front clean count errors.Memory far read = search (rules, stops-header)
+stops-reading-header telling a b source x y unread front clean count (errors.Read kind) far read = search (rules, stops-header)
 stops-reading-header telling a b source x y unread front clean count (errors.Write kind) far read = absurd read.ends
 stops-reading-header telling a b source x y unread front clean count errors.LineTooLong far read = absurd read.ends
 stops-reading-header telling a b source x y unread front clean count errors.TooManyLines far read = absurd read.ends

@@ -1,4 +1,6 @@
 -- Bytes of a source taken line by line, or skipped.
+use Rattle.std.proofs.lemmas.Bool.Decides.{nat_tests}
+use Rattle.std.proofs.lemmas.Grind.{common_steps}
 use Rattle.std.proofs.Common.{◌≡◌, ◌∙◌, ◌+◌, ◌-◌, ◌<◌, ◌≤◌, ℕ, Bool, true, false, List, [], ◌∷◌, ◌++◌, length, take, drop, refl, sym, ap, append_assoc, append-nil, length-append, length-take, length-drop, drop-drop, arith, Option, None, Some, Ok, Err}
 use Rattle.std.proofs.lemmas.List.{drop-take, drop_all, take-append-drop}
 use Rattle.std.specs.Io.KnownBytes.{Consumes, IsAtEnd, Keeps, prepend_known}
@@ -6,7 +8,6 @@ use Rattle.std.specs.declared.io.ErrorKind.{ErrorKind}
 use Rattle.gix_date.specs.Text.Characters.{newline}
 use Rattle.gix_date.specs.Devices.StreamState.{StreamState, Gives}
 use Rattle.gix_date_tool.specs.Lines.{IsLine}
-use Rattle.gix_date_tool.proofs.Reading.{Consumes-append, Consumes-kept}
 use Rattle.git_ident_tool.specs.Cursor.{ReadsLine, Refills, Skips, TakesEnd, TakesFront}
 use Rattle.git_ident_tool.specs.declared.stream.cursor.LineEnd.TheVariants.{Full}
 
@@ -38,9 +39,7 @@ unread-length bytes from to in_order within = omega (arith, length-take (to - fr
 
 -- a text that begins with this
 pub front-cut : (text front rest : List ℕ) (n : ℕ) → text ≡ front ++ rest → n ≡ length front → text ≡ front ++ drop n text
-front-cut text front rest n e is =
-    e ∙ ap (λ (xs : List ℕ). front ++ xs)
-    (sym (drop_front front rest) ∙ ap (λ (k : ℕ). drop k (front ++ rest)) (sym is) ∙ ap (λ (xs : List ℕ). drop n xs) (sym e))
+front-cut text front rest n e is = grind (arith, drop_front)
 
 -- the unread bytes begin with a line and its newline
 pub takes-end : (most : ℕ) (text next line longer part after : List ℕ) → take most text ≡ part ++ newline ∷ after → IsLine part → longer ≡ line ++ part
@@ -63,17 +62,7 @@ takes-end most text next line longer part after cut is_line grown left =
 -- they are a front of a line
 pub takes-front : (most : ℕ) (text next line longer front : List ℕ) → front ≡ take most text → IsLine front → longer ≡ line ++ front
     → next ≡ drop (length front) text → TakesFront most (record { unread = text; line = line }) (record { unread = next; line = longer })
-takes-front most text next line longer front is is_line grown left =
-    let count : length front ≡ length (take most text) = ap length is in
-    record {
-      part = front;
-      is_line = is_line;
-      cut = front-cut text front (drop most text) (length front) (sym (take-append-drop most text) ∙ ap (λ (xs : List ℕ). xs ++ drop most text) (sym is)) refl
-          ∙ ap (λ (xs : List ℕ). front ++ xs) (sym left);
-      longer = grown;
-      fits = omega (arith, count, length-take most text);
-      all = λ few. left ∙ drop_all (length front) text (omega (arith, count, length-take most text, few));
-    }
+takes-front most text next line longer front is is_line grown left = grind (arith, nat_tests, common_steps, front-cut, take-append-drop, length-take, drop_all)
 
 -- the unread bytes have room for a line and its newline
 pub has-room : (bytes : List ℕ) (from to most : ℕ) (part after : List ℕ) → from ≤ to → to ≤ length bytes
@@ -89,8 +78,7 @@ taken-left (Some xs) text next used e = ap (λ (zs : List ℕ). zs ++ xs) e ∙ 
 
 -- bytes that were taken, and then some that were unread
 pub takes-more : (first source : StreamState) (text next taken used : List ℕ) → Gives first (at text source) taken → text ≡ used ++ next → Gives first (at next source) (taken ++ used)
-takes-more first source text next taken used given e =
-    Consumes-append first.bytes (prepend_known text source.bytes) (prepend_known next source.bytes) taken used given (taken-left source.bytes text next used e)
+takes-more first source text next taken used given e = grind (arith, nat_tests, common_steps, taken-left)
 
 -- a line has begun, of which at most so many bytes are asked for
 pub record Begun (most : ℕ) (first now : StreamState) (line : List ℕ) : Type 0 where
@@ -124,7 +112,7 @@ Skipped-all count first source text next left less none fewer h = record {
 }
 
 pub Skipped-kept : (count : ℕ) (first now new : StreamState) (left : ℕ) → Skipped count first now left → Keeps now.bytes new.bytes → Skipped count first new left
-Skipped-kept count first now new left h kept = record { bytes = h.bytes; given = Consumes-kept first.bytes now.bytes new.bytes h.bytes h.given kept; counted = h.counted }
+Skipped-kept count first now new left h kept = grind (arith)
 
 -- all that was unread is skipped, and more is asked for
 pub skips-on : (count : ℕ) (first source : StreamState) (bytes : List ℕ) (from to left : ℕ) → from ≤ to → to ≤ length bytes → to - from < left
@@ -139,15 +127,11 @@ skips-on count first source bytes from to left in_order within few h =
 pub skips-out : (count : ℕ) (first now new : StreamState) (unread : List ℕ) (left : ℕ) (more : Bool) → more ≡ false → 0 < left → Skipped count first now left
     → Refills unread now new (Ok more) → Skips count first new (Ok false)
 skips-out count first now new unread left true e some h r = cc
-skips-out count first now new unread left false e some h r =
-    let k = Skipped-kept count first now new left h r.kept in
-    record { bytes = k.bytes; given = k.given; ends = (omega (arith, k.counted, some), r.ends) }
+skips-out count first now new unread left false e some h r = grind (arith, Skipped-kept)
 
 pub skips-fault : (count : ℕ) (first now new : StreamState) (unread : List ℕ) (left : ℕ) (kind : ErrorKind) → 0 < left → Skipped count first now left
     → Refills unread now new (Err kind) → Skips count first new (Err kind)
-skips-fault count first now new unread left kind some h r =
-    let k = Skipped-kept count first now new left h r.kept in
-    record { bytes = k.bytes; given = k.given; ends = (omega (arith, k.counted, some), r.ends) }
+skips-fault count first now new unread left kind some h r = grind (arith, Skipped-kept)
 
 -- the last bytes to skip are unread
 pub skips-last : (count : ℕ) (first source : StreamState) (text next : List ℕ) (left : ℕ) → left ≤ length text → next ≡ drop left text

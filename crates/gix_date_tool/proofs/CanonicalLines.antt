@@ -1,4 +1,5 @@
 -- A line is replied to by `canonical` exactly where it is a canonical header.
+use Rattle.std.proofs.Common.{arith}
 use Rattle.std.proofs.Common.{◌≡◌, ℕ, List, Bool, true, false, cond, Option, Some, None, refl}
 use Rattle.std.proofs.lemmas.Str.{is_utf8-from_IsUtf8}
 use Rattle.std.specs.Option.{option_map_or}
@@ -25,7 +26,4 @@ by-mode mode query line true m u h = by-test (is_canonical_header line) (header_
 
 pub canonical-lines : (line : List ℕ) → CanonicalLines line
 unfolding IsReply
-canonical-lines line query m = (
-  λ h. by-mode query.mode query line (is_utf8 line) m refl h,
-  λ c. let u = is_utf8-from_IsUtf8 line (canonical-utf8 line c) in rw (u, m, c) refl,
-)
+canonical-lines line query m = grind (arith, by-mode, is_utf8-from_IsUtf8, canonical-utf8)

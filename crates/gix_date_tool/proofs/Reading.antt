@@ -1,6 +1,9 @@
 -- What was read and replied to, piece by piece.
+use Rattle.std.proofs.lemmas.Bool.Decides.{nat_tests}
+use Rattle.std.proofs.lemmas.Grind.{common_steps}
+use Rattle.std.proofs.Common.{rules}
 use Rattle.std.proofs.Common.{◌≡◌, ◌≢◌, true, false, inl, inr, ℕ, ◌+◌, ◌≤◌, List, [], ◌∷◌, ◌++◌, length, refl, sym, ap, ◌∙◌, subst, append_assoc, append-nil, length-append, arith, Option, None, Some, Result, Ok, Err}
-use Rattle.std.proofs.lemmas.List.Elements.{All-append, All-nil, All-cons}
+use Rattle.std.proofs.lemmas.List.Elements.{All-nil, All-cons}
 use Rattle.std.specs.Prelude.{All}
 use Rattle.std.specs.Io.KnownBytes.{Keeps, Consumes}
 use Rattle.std.specs.declared.io.ErrorKind.{ErrorKind}
@@ -8,13 +11,12 @@ use Rattle.gix_date.specs.Text.Characters.{newline}
 use Rattle.gix_date.specs.Devices.StreamState.{StreamState, Takes, TakesNothing, Gives, HasEnded}
 use Rattle.gix_date_tool.specs.declared.error.ToolError.{ToolError}
 use Rattle.gix_date_tool.specs.declared.error.ToolError.TheVariants as errors
-use Rattle.gix_date_tool.specs.declared.runs.lines.TheConstants.{MAX_LINES}
 use Rattle.gix_date_tool.specs.declared.runs.replies.Query.{Query}
 use Rattle.gix_date_tool.specs.Lines.{last_line, Part, with_last_line, IsShort, IsWithinLimits}
 use Rattle.gix_date_tool.specs.Replies.{Replied}
 use Rattle.gix_date_tool.specs.Outbox.{all_sent, Sends}
 use Rattle.gix_date_tool.specs.Run.{Change, change, StopsAt, EndsAt, writer_answer, Ran, IsWritten, is_unwritten}
-use Rattle.gix_date_tool.specs.Progress.{Stage, first_stage, IsReady, SendsAll, TakesIn, Ends}
+use Rattle.gix_date_tool.specs.Progress.{Stage, first_stage, SendsAll, TakesIn, Ends}
 use Rattle.gix_date_tool.proofs.Sending.{Takes-all_sent, Puts-sent, PutsProperPrefix-sent}
 use Rattle.gix_date_tool.proofs.Taking.{Sends-replies, Replied-map, TakesIn-nil, TakesIn-then, TakesIn-sent}
 
@@ -111,20 +113,12 @@ last_short (b ∷ bs) h = All-cons IsShort (b ∷ bs) [] h (All-nil IsShort)
 
 room_for_last : (n most : ℕ) (rest : List ℕ) → n ≤ most → (n ≡ most → rest ≡ []) → n + length (last_line rest) ≤ most
 room_for_last n most [] few none = omega arith
-room_for_last n most (b ∷ bs) few none = let not : n ≡ most → ⊥ = λ e. not_empty (none e) in omega (arith, few, not)
-  where
-    not_empty : b ∷ bs ≡ [] → ⊥
-    not_empty h = cc
+room_for_last n most (b ∷ bs) few none = grind (arith)
 
 -- what was read is within the limits
 within : {query : Query} {sink : StreamState} {s : Stage} {input : List ℕ} (took : TakesIn (first_stage query sink) s input (Ok tt))
     → IsWithinLimits (with_last_line took.part)
-within {s = s} took =
-    let ready = subst IsReady took.to.same took.to.ready in
-    let last = last_line took.part.rest in (
-      All-append IsShort took.part.lines last took.short (last_short took.part.rest ready.is_short),
-      omega (arith, length-append took.part.lines last, room_for_last (0 + length took.part.lines) MAX_LINES took.part.rest ready.few ready.none_after),
-    )
+within {s = s} took = grind (arith, nat_tests, common_steps, last_short, length-append, room_for_last)
 
 -- the reader refused
 pub Ran-unread : {query : Query} {sink : StreamState} {s : Stage} {old mid : StreamState} (new : StreamState) {kind : ErrorKind}
@@ -148,7 +142,7 @@ last_put {query = query} {s = s} {s' = s'} r h k =
 -- nothing more was read
 read_none : {query : Query} {sink : StreamState} {s : Stage} {old mid : StreamState} (new : StreamState) (h : HasRead query sink s (change old mid)) → Gives mid new []
     → Gives old new h.input
-read_none {old = old} {mid = mid} new h read = subst (Gives old new) (append-nil h.input) (Consumes-append old.bytes mid.bytes new.bytes h.input [] h.read read)
+read_none {old = old} {mid = mid} new h read = grind (arith, append-nil, Consumes-append)
 
 -- the input is at its end, and the last line was replied to
 pub Ran-ended : {query : Query} {sink : StreamState} {s : Stage} (s' : Stage) {old mid : StreamState} (new : StreamState) (count : ℕ)
@@ -187,8 +181,7 @@ Ran-ended-unwritten s' new kind h read end k = record {
 -- The writer refused in the run.
 pub Ran-unwritten : (sink : StreamState) (s : Stage) (query : Query) (reading : Change) (r : Result ℕ ToolError)
     → is_unwritten r ≡ true → RanBut sink s query reading r → Ran (IsWritten (change sink s.output.sink)) query reading r
-Ran-unwritten sink s query reading (Err (errors.Write kind)) is h =
-    record { input = h.input; part = h.part; lines = h.lines; read = h.read; ends = h.ends; wrote = Replied-map (λ text put. (put.taken, put.fault)) h.wrote }
+Ran-unwritten sink s query reading (Err (errors.Write kind)) is h = search (rules)
 Ran-unwritten sink s query reading (Err (errors.Read kind)) is h = cc
 Ran-unwritten sink s query reading x is h = cc
 

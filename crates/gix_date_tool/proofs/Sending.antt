@@ -1,5 +1,8 @@
 -- Texts that are sent in pieces.
-use Rattle.std.proofs.Common.{◌≡◌, ℕ, ◌+◌, ◌<◌, List, [], ◌∷◌, ◌++◌, length, get_or, take, drop, sym, ap, ◌∙◌, subst, append_assoc, append-nil, Bor, Option, None, Some, Result, Ok, Err}
+use Rattle.std.proofs.Common.{arith}
+use Rattle.std.proofs.lemmas.Bool.Decides.{nat_tests}
+use Rattle.std.proofs.lemmas.Grind.{common_steps}
+use Rattle.std.proofs.Common.{◌≡◌, ℕ, ◌+◌, ◌<◌, List, [], ◌++◌, length, get_or, take, drop, sym, ap, ◌∙◌, subst, append_assoc, append-nil, Bor, Option, None, Some, Result, Ok, Err}
 use Rattle.std.proofs.lemmas.List.{take_more, take-append-drop}
 use Rattle.std.proofs.lemmas.List.Concat.{flat_map-append}
 use Rattle.std.specs.Prelude.{OnOk, OnErr, IfErr}
@@ -8,7 +11,7 @@ use Rattle.std.specs.declared.io.ErrorKind.{ErrorKind}
 use Rattle.gix_date.specs.Devices.StreamState.{StreamState, Takes, TakesProperPrefix}
 use Rattle.gix_date.proofs.Text.KnownBytes.{Appends-append}
 use Rattle.gix_date_tool.specs.Outbox.{Output, pieces_text, all_sent, Puts, PutsProperPrefix, Sends}
-use Rattle.gix_signature.proofs.Pieces.{Cut-after, Cut-more}
+use Rattle.gix_signature.proofs.Pieces.{Cut-after}
 
 -- nothing was appended
 pub Appends-nil : (known : Option (List ℕ)) → Appends known known []
@@ -37,7 +40,7 @@ Puts-sent {a = a} {c = c} {x = x} h k = subst (Puts a c) (append-nil x) (Puts-th
 
 -- all that was put for a sink was sent
 pub Takes-all_sent : {sink : StreamState} {a : Output} {text : List ℕ} → Puts (all_sent sink) a text → a.unsent ≡ [] → Takes sink a.sink text
-Takes-all_sent {sink = sink} {a = a} h none = subst (Takes sink a.sink) (sym (h.cut ∙ ap (λ xs. h.sent ++ xs) none ∙ append-nil h.sent)) h.taken
+Takes-all_sent {sink = sink} {a = a} h none = grind (arith, append-nil)
 
 -- one text, and then a refusal
 pub PutsProperPrefix-then : {a b c : Output} {x y : List ℕ} {kind : ErrorKind} → Puts a b x → PutsProperPrefix b c y kind → PutsProperPrefix a c (x ++ y) kind
@@ -57,18 +60,12 @@ Sends-then c y (Err kind) h k = PutsProperPrefix-then h k
 
 -- a refusal, whatever text was to follow
 pub PutsProperPrefix-more : {a b : Output} {x : List ℕ} {kind : ErrorKind} (y : List ℕ) → PutsProperPrefix a b x kind → PutsProperPrefix a b (x ++ y) kind
-PutsProperPrefix-more {a = a} {b = b} {x = x} y h = record {
-  taken = subst (TakesProperPrefix a.sink b.sink) (append_assoc a.unsent x y) (Cut-more a.sink b.sink (a.unsent ++ x) y h.taken);
-  fault = h.fault;
-}
+PutsProperPrefix-more {a = a} {b = b} {x = x} y h = grind (arith, nat_tests, common_steps, append_assoc)
 
 -- the pieces up to one and that one
 pieces_text-next : (pieces : List (Bor (List ℕ))) (i : ℕ) (d : Bor (List ℕ)) → i < length pieces
     → pieces_text (take (i + 1) pieces) ≡ pieces_text (take i pieces) ++ (get_or pieces i d).now
-pieces_text-next pieces i d h =
-    let piece = get_or pieces i d in
-    ap pieces_text (take_more pieces i d h) ∙ flat_map-append (λ p. p.now) (take i pieces) (piece ∷ [])
-    ∙ ap (λ xs. pieces_text (take i pieces) ++ xs) (append-nil piece.now)
+pieces_text-next pieces i d h = grind (arith, nat_tests, common_steps, take_more, flat_map-append, append-nil)
 
 -- the next piece of a text
 pub Puts-piece : {a b c : Output} (pieces : List (Bor (List ℕ))) (i : ℕ) (d : Bor (List ℕ))

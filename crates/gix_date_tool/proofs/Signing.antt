@@ -1,4 +1,5 @@
 -- What is written of a signature line's parts.
+use Rattle.std.proofs.Common.{arith}
 use Rattle.std.proofs.Common.{◌≡◌, ◌∙◌, ℕ, List, [], Option, Some, None, Result, Ok, Err, ok_or, option_map, unwrap_or, sym, ap}
 use Rattle.gix_date.specs.Header.Reading.{header_time}
 use Rattle.gix_date.specs.Header.Text.{header_text}
@@ -23,11 +24,7 @@ same-time t r e = ap (λ o. unwrap_or o t) e
 
 -- a text is written again as one line
 pub signed-once : (text a b : List ℕ) → IsSigned text a → IsSigned text b → a ≡ b
-signed-once text a b h g =
-    let parts : h.parts ≡ g.parts = the-cut text h.parts g.parts h.cut.whole g.cut in
-    let times : h.time ≡ g.time = same-time h.time g.time (sym h.read ∙ ap (λ (p : Parts). header_time p.time) parts ∙ g.read) in
-    let dues : line_due h.parts.name h.parts.mail h.time ≡ line_due g.parts.name g.parts.mail g.time = λ i. line_due (parts i).name (parts i).mail (times i) in
-    same-line a b (sym h.due ∙ dues ∙ g.due)
+signed-once text a b h g = grind (arith, the-cut, same-time, same-line)
 
 -- one from whose last part no time is read is not
 pub no-time-unsigned : (text : List ℕ) (p : Parts) → OneCut text → IsCut text p → header_time p.time ≡ None → IsUnsigned text
@@ -38,10 +35,7 @@ no-time-unsigned text p one cut none line h =
 -- what is due of the parts of a line, by what text their time has
 pub due-of : (text : List ℕ) (p : Parts) (t : Time) (o : Option (List ℕ)) → IsCut text p → header_text t ≡ o
     → line_due p.name p.mail t ≡ ok_or (option_map line_of (option_map (λ x. record { name = p.name; mail = p.mail; time = x }) o)) OffsetTooWide
-due-of text p t o cut e =
-    let are = plain p cut.allowed in
-    due-is p.name p.mail t are.name are.mail
-    ∙ ap (λ q. ok_or (option_map line_of (option_map (λ x. record { name = p.name; mail = p.mail; time = x }) q)) OffsetTooWide) e
+due-of text p t o cut e = grind (arith, plain, due-is)
 
 -- nor is one whose time has no header text
 pub wide-unsigned : (text : List ℕ) (p : Parts) (t : Time) → OneCut text → IsCut text p → header_time p.time ≡ Some t → header_text t ≡ None → IsUnsigned text

@@ -1,12 +1,11 @@
 -- A line is replied to by itself in Sign exactly where it is a canonical signature line.
-use Rattle.std.proofs.Common.{◌≡◌, ◌∙◌, ℕ, List, [], Bool, true, false, Option, Some, None, Result, Ok, Err, refl, sym, ap, subst, inl, inr}
+use Rattle.std.proofs.Common.{arith}
+use Rattle.std.proofs.Common.{◌≡◌, ◌∙◌, ℕ, List, [], Bool, true, false, Option, Some, None, Ok, refl, sym, ap, subst, inl, inr}
 use Rattle.std.specs.Str.{is_utf8}
 use Rattle.gix_date.specs.Header.Laws.{ComesBack}
 use Rattle.gix_date.specs.Header.Text.{header_text}
 use Rattle.gix_date.proofs.Header.HeaderLaws.{canonical-taken, canonical-back, comes-back-canonical}
 use Rattle.gix_signature.specs.Signature.{Parts, line_of}
-use Rattle.gix_signature.specs.declared.error.SignatureError.{SignatureError}
-use Rattle.gix_signature.specs.declared.error.SignatureError.TheVariants.{OffsetTooWide}
 use Rattle.gix_signature.proofs.Cuts.{the-cut}
 use Rattle.gix_date_tool.specs.declared.program.arguments.Mode.TheVariants.{Sign}
 use Rattle.gix_date_tool.specs.declared.runs.replies.Query.{Query}
@@ -18,9 +17,7 @@ use Rattle.gix_date_tool.proofs.Signing.{due-of, same-line}
 
 -- where a line is due of its own parts, their time comes back
 time-back : (line : List ℕ) (s : IsSigned line line) (o : Option (List ℕ)) → header_text s.time ≡ o → ComesBack s.parts.time
-time-back line s None e =
-    let clash : ◌≡◌ {A = Result (List ℕ) SignatureError} (Ok line) (Err OffsetTooWide) = sym s.due ∙ due-of line s.parts s.time None s.cut e in
-    absurd cc
+time-back line s None e = grind (arith, due-of)
 time-back line s (Some x) e =
     let p : Parts = record { name = s.parts.name; mail = s.parts.mail; time = x } in
     let whole : line ≡ line_of p = same-line line (line_of p) (sym s.due ∙ due-of line s.parts s.time (Some x) s.cut e) in
@@ -50,7 +47,4 @@ by-text query line true m u h = canonical-of line u (rw m at h)
 
 pub unchanged-lines : (line : List ℕ) → UnchangedLines line
 unfolding IsReply
-unchanged-lines line query m = (
-  λ h. by-text query line (is_utf8 line) m refl h,
-  λ c. rw (c.is_text, m) (inl (line, signed-of line c, refl)),
-)
+unchanged-lines line query m = grind (arith, by-text, signed-of)

@@ -1,9 +1,8 @@
 -- The reply to a header of the offset `-0000`.
-use Rattle.std.proofs.Common.{◌≡◌, ℕ, List, [], ◌∷◌, ◌++◌, true, pos, refl, sym, ap, append_assoc, codes, IsAscii, arith}
+use Rattle.std.proofs.Common.{◌≡◌, ℕ, List, [], ◌++◌, true, pos, refl, append_assoc, codes, IsAscii, arith}
 use Rattle.std.proofs.lemmas.Str.{is_utf8-from_IsUtf8, IsUtf8-from_ascii, IsAscii-append}
 use Rattle.std.proofs.lemmas.Str.Ascii.{IsAscii-nil, IsAscii-cons}
 use Rattle.std.specs.Fmt.{digits}
-use Rattle.gix_date.specs.Text.Characters.{newline}
 use Rattle.gix_date.specs.Text.Numbers.{decimal_text}
 use Rattle.gix_date.specs.Header.CanonicalBytes.{are_usual_seconds}
 use Rattle.gix_date.proofs.Fast.UnknownOffsets.{unknown-not-canonical, unknown-time, usual-written}
@@ -32,4 +31,4 @@ zero-written = refl
 
 -- the text of such a reply, in its pieces
 pub unknown-text : (ds : List ℕ) → are_usual_seconds ds ≡ true → codes "read " ++ (ds ++ (codes " 0\n" ++ [])) ≡ reply_line (unknown_reply ds)
-unknown-text ds h = rw (usual-written ds h, zero-written) (ap (λ (t : List ℕ). codes "read " ++ t) (sym (append_assoc ds (codes " 0") (newline ∷ []))))
+unknown-text ds h = grind (arith, usual-written, zero-written, append_assoc)
