@@ -264,15 +264,17 @@ enum gix_date_line_reader {
 
 /* What a time is printed as. */
 enum gix_date_named_format {
-    GIX_DATE_SHORT = 0,          /* 2022-08-18 */
-    GIX_DATE_RFC2822 = 1,        /* Thu, 18 Aug 2022 12:45:06 +0800, two digits of the day */
-    GIX_DATE_GIT_RFC2822 = 2,    /* with as few digits of the day as it has */
-    GIX_DATE_ISO8601 = 3,        /* 2022-08-18 12:45:06 +0800 */
-    GIX_DATE_ISO8601_STRICT = 4, /* 2022-08-18T12:45:06+08:00 */
-    GIX_DATE_GITOXIDE = 5,       /* Thu Aug 18 2022 12:45:06 +0800 */
-    GIX_DATE_DEFAULT = 6,        /* Thu Aug 18 12:45:06 2022 +0800 */
-    GIX_DATE_UNIX = 7,           /* 1660797906 */
-    GIX_DATE_RAW = 8             /* 1660797906 +0800 */
+    /* Made by scripts/formats. */
+    GIX_DATE_UNIX = 0,           /* 123456789 */
+    GIX_DATE_RAW = 1,            /* 1660874655 +0800 */
+    GIX_DATE_SHORT = 2,          /* 2018-12-24 */
+    GIX_DATE_RFC2822 = 3,        /* Mon, 08 Aug 2022 12:45:06 +0800 */
+    GIX_DATE_GIT_RFC2822 = 4,    /* Mon, 8 Aug 2022 12:45:06 +0800 */
+    GIX_DATE_ISO8601 = 5,        /* 2022-08-17 22:04:58 +0200 */
+    GIX_DATE_ISO8601_STRICT = 6, /* 2022-08-17T21:43:13+08:00 */
+    GIX_DATE_GITOXIDE = 7,       /* Sun Sep 04 2022 10:45:06 -0400 */
+    GIX_DATE_DEFAULT = 8         /* Sun Sep 4 10:45:06 2022 -0400 */
+    /* Made until here. */
 };
 
 /* A time: seconds since 1970, and an offset in seconds east of UTC. Any two numbers are a time. */

@@ -16,6 +16,9 @@ static const struct {
     uint32_t number;
 } formats[] =
     {
+        /* Made by scripts/formats. */
+        {"UNIX", GIX_DATE_UNIX},
+        {"RAW", GIX_DATE_RAW},
         {"SHORT", GIX_DATE_SHORT},
         {"RFC2822", GIX_DATE_RFC2822},
         {"GIT_RFC2822", GIX_DATE_GIT_RFC2822},
@@ -23,8 +26,7 @@ static const struct {
         {"ISO8601_STRICT", GIX_DATE_ISO8601_STRICT},
         {"GITOXIDE", GIX_DATE_GITOXIDE},
         {"DEFAULT", GIX_DATE_DEFAULT},
-        {"UNIX", GIX_DATE_UNIX},
-        {"RAW", GIX_DATE_RAW},
+        /* Made until here. */
 },
   refusals[] = {
       {"NotText", GIX_DATE_NOT_TEXT},

@@ -292,18 +292,8 @@ fn told_parts(parts: Result<Signature<'_>, Error>) -> Answer {
 }
 
 fn format(name: &str) -> Option<Format> {
-    Some(match name {
-        "SHORT" => formats::SHORT.into(),
-        "RFC2822" => formats::RFC2822.into(),
-        "GIT_RFC2822" => formats::GIT_RFC2822.into(),
-        "ISO8601" => formats::ISO8601.into(),
-        "ISO8601_STRICT" => formats::ISO8601_STRICT.into(),
-        "GITOXIDE" => formats::GITOXIDE.into(),
-        "DEFAULT" => formats::DEFAULT.into(),
-        "UNIX" => formats::UNIX,
-        "RAW" => formats::RAW,
-        _ => return None,
-    })
+    let row = formats::NAMED.iter().find(|row| row.0 == name)?;
+    Some(row.1)
 }
 
 /// A text, where the call that gives the seconds if there is none agrees.

@@ -15,6 +15,7 @@ pub(crate) fn is_instant(seconds: i64) -> bool
 }
 
 /// What the clock of UTC shows so many seconds after 1970. `None` if that is no instant of `jiff`.
+#[tactic(auto, using(crate::proofs::Rules::HeldClocks::no_clock, std::proofs::lemmas::Int::to_z_pos, crate::proofs::Rules::HeldClocks::utc_showable, jiff_core::proofs::SignedLemmas::signed_arith, crate::proofs::Rules::HeldClocks::a_clock))]
 pub(crate) fn utc_clock(seconds: u64) -> Option<Clock>
     ensures { result ≡ utc_clock seconds }
 {

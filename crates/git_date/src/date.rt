@@ -45,6 +45,7 @@ pub fn parse_date(text: &[u8], now: Zoned<'_>) -> Result<ReadDate, DateError>
 }
 
 /// [`parse_date`] at an instant in a zone. The zone is asked only for a text without an offset, so most texts cost less so.
+#[tactic(auto, using(crate::proofs::Exact::Places::places))]
 pub fn parse_date_at(text: &[u8], now: Timestamp, zone: TimeZone<'_>) -> Result<ReadDate, DateError>
     ensures date { DateOutcomeAt now.nanosecond (plain_zone zone.entry) text.now result }
     ensures places { HasPlacesIn text.now result }

@@ -287,6 +287,7 @@ fn fields(date: Date, clock: Clock, offset: i16) -> Fields
 }
 
 /// The fields of `2022-08-18 12:45:06 +0800`.
+#[tactic(auto, using(gix_date::proofs::Text::Ints::held, crate::proofs::Exact::FastTexts::made_says, crate::proofs::Exact::FastTexts::iso_says, crate::proofs::Exact::FastTexts::joined))]
 fn iso8601(text: &[u8]) -> Option<Fields>
     ensures { IfSome result (SaysFields text.now) }
 {
@@ -297,6 +298,7 @@ fn iso8601(text: &[u8]) -> Option<Fields>
 }
 
 /// The fields of `2022-08-18T12:45:06+08:00`.
+#[tactic(auto, using(gix_date::proofs::Text::Ints::held, crate::proofs::Exact::FastTexts::made_says, crate::proofs::Exact::FastTexts::strict_says, crate::proofs::Exact::FastTexts::joined))]
 fn iso8601_strict(text: &[u8]) -> Option<Fields>
     ensures { IfSome result (SaysFields text.now) }
 {
@@ -307,6 +309,7 @@ fn iso8601_strict(text: &[u8]) -> Option<Fields>
 }
 
 /// The fields of `Thu, 18 Aug 2022 12:45:06 +0800`.
+#[tactic(auto, using(gix_date::proofs::Text::Ints::held, crate::proofs::Exact::FastTexts::made_says, crate::proofs::Exact::FastTexts::mail_says, crate::proofs::Exact::FastTexts::joined))]
 fn rfc2822(text: &[u8]) -> Option<Fields>
     ensures { IfSome result (SaysFields text.now) }
 {
@@ -398,6 +401,7 @@ fn said_at(seconds: u64, minutes: i16) -> Said
 }
 
 /// What `1660797906 +0800` says, alone or after `@`.
+#[tactic(auto, using(gix_date::proofs::Text::Ints::held, crate::proofs::Exact::FastSeconds::at_text_is, crate::proofs::Exact::FastSeconds::raw_text_is))]
 pub(crate) fn printed_seconds(text: &[u8]) -> Option<Said>
     ensures says { IfSome result (Says text.now) }
     ensures instant { IfSome result SaidIsInstant }

@@ -188,6 +188,7 @@ fn third_is_digit(text: &[u8]) -> bool {
 }
 
 /// What the tokens of a text say. Few digits say no clock, so that words are not read here.
+#[tactic(auto, using(crate::proofs::Exact::FewDigits::digits_are_few))]
 fn tokens_said(now: Timestamp, text: &[u8]) -> Result<Said, DateError>
     ensures value { result ≡ fields_said text.now (reading_of (now_at now.nanosecond) text.now) }
     ensures instant { IfOk result SaidIsInstant }

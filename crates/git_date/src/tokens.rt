@@ -18,6 +18,7 @@ pub(crate) enum Token<'a> {
 }
 
 /// The first token of a text, and what stands after it.
+#[tactic(auto, using(crate::proofs::Text::TokenRuns::run_lengths, crate::proofs::Text::TokenRuns::nothing_first, crate::proofs::Text::TokenRuns::letters_front, crate::proofs::Text::TokenRuns::digits_front, crate::proofs::Text::TokenRuns::mark_front, std::proofs::lemmas::Grind::common_steps))]
 pub(crate) fn next_token(text: &[u8]) -> Option<(Token<'_>, &[u8])>
     ensures tokens { MatchOption result (tokens text.now ≡ [])
         (λ found. tokens text.now ≡ token_of found.0 ∷ tokens found.1.now) }
@@ -50,6 +51,7 @@ fn digits_len(text: &[u8]) -> usize
 }
 
 /// How many bytes are left from these digits on, by the text after them.
+#[tactic(auto, using(crate::proofs::Text::TokenRuns::texts_are, crate::proofs::Text::TokenRuns::run_lengths))]
 pub(crate) fn left_from(run: &[u8], text: &[u8]) -> usize
     ensures { result ≡ bytes_left (Digits run.now ∷ tokens text.now) }
 {

@@ -5,6 +5,7 @@ ghost use Rattle.git_date_laws.specs.ApproximateLaws.{HasOneAnswer, IsBackInEver
 use gix_date::Zoned;
 
 /// In a zone of one offset [`git_date::approxidate`] has one answer: the guess of a definition that asks no zone.
+#[tactic(auto, using(crate::proofs::Whole::Guesses::one_answers))]
 pub fn one_answer(text: &[u8], now: &Zoned<'_>)
     ensures { HasOneAnswer now.now text.now }
 {}
@@ -21,6 +22,7 @@ pub fn back_in_every_zone(text: &[u8], now: &Zoned<'_>)
 {}
 
 /// Where nothing of a text is understood, the time is the moment's, in whole seconds, in every zone where it is found again.
+#[tactic(auto, using(crate::proofs::Whole::Understood::moment_unless))]
 pub fn not_understood_is_now(text: &[u8], now: &Zoned<'_>)
     ensures { IsMomentUnlessUnderstood now.now text.now }
 {}
@@ -29,6 +31,7 @@ pub fn not_understood_is_now(text: &[u8], now: &Zoned<'_>)
 /// letters directly before digits; unknown words but `ago`, `at`, `on`, `of`, `the` and `and`; a unit without a number, and a count
 /// beside a number that waits; the number 0, and one of three digits or more that begins with 0; and a number that fits no unknown
 /// field, or that `now`, `yesterday` or `never` drops.
+#[tactic(auto, using(crate::proofs::Ignored::UnusedDrafts::ignores_earliest))]
 pub fn approximate_ignored_is_unused(text: &[u8], now: &Zoned<'_>)
     ensures { IgnoresEarliest now.now text.now }
 {}

@@ -47,6 +47,7 @@ pub fn clock_read(zone: TimeZone<'_>)
 /// a month, a day of the week, a zone, `AM`, `PM`, `ago`, `at`, `on`, `of`, `the` or `and`, and no digit follows directly; digits are
 /// if they set a field, and a sign directly before digits is if they say an offset. Only other marks, a fraction or the ending of a
 /// number, a `T` between digits and what follows a line feed are passed over. After `@` nothing is ignored but a NUL.
+#[tactic(auto, using(crate::proofs::Ignored::Unused::ignores_unused))]
 pub fn ignored_is_unused(text: &[u8], now: &Zoned<'_>)
     ensures { IgnoresUnused now.now text.now }
 {}

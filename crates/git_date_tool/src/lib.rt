@@ -9,7 +9,7 @@ mod zones;
 
 pub use answers::readers::{Reader, Strictness};
 pub use answers::refusals::Refusal;
-pub use answers::shown::{DateLine, NamedFormat, NoWay, Shown, shown_named};
+pub use answers::shown::{DateLine, NoWay, Shown, shown_named};
 pub use answers::warnings::{Numbered, Warning};
 pub use answers::{Answer, Query, answer_line};
 pub use program::{execute, show_usage};

@@ -45,10 +45,10 @@ and-true true = refl
 and-true false = refl
 
 -- one more line was judged
-pub next-text : (telling : Telling) (a b c x y z : StreamState) (line : List ℕ) (clean one : Bool) (count most : ℕ)
+pub next_text : (telling : Telling) (a b c x y z : StreamState) (line : List ℕ) (clean one : Bool) (count most : ℕ)
     → LinesFar telling (flow (change a b) (change x y)) clean count → ReadsLine most b c line (Ok Newline) → Tells (text_due telling line) (is_clean line) (change y z) (Ok one)
     → LinesFar telling (flow (change a c) (change x z)) (clean && one) (count + 1)
-next-text telling a b c x y z line clean one count most far read told = record {
+next_text telling a b c x y z line clean one count most far read told = record {
   lines = far.lines ++ line ∷ [];
   each = All-append IsLine far.lines (line ∷ []) far.each (All-cons IsLine line [] read.is_line (All-nil IsLine));
   given = subst (Gives a c)

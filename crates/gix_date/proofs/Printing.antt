@@ -10,3 +10,4 @@ pub mod LocalClocks
 pub mod ShownTexts
 pub mod Appended
 pub mod Pairs
+pub mod FormatTable

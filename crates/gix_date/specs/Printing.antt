@@ -2,6 +2,7 @@
 pub mod LocalClocks
 pub mod Formats
 pub mod NamedTexts
+pub mod NamedFormats
 pub mod PrintedTimes
 pub mod ReadingBack
 pub mod FormatBuf

@@ -9,6 +9,7 @@ use std::str;
 /// standard library gives, without its error.
 ///
 /// The text is the bytes, borrowed, so no call takes memory.
+#[tactic(auto, using(crate::proofs::Text::AsciiCuts::ascii_is_utf8))]
 pub fn text_of(bytes: &[u8]) -> Option<&str>
     ensures { MatchOption result (¬ (IsUtf8 bytes.now)) (λ text. (text.now ≡ bytes.now) × IsUtf8 bytes.now) }
 {
@@ -51,6 +52,7 @@ fn ends_are_ascii<const N: usize>(bytes: &[u8]) -> bool
 }
 
 /// Whether the first N bytes are ASCII.
+#[tactic(auto, using(crate::proofs::Text::AsciiBlocks::block_is_ascii))]
 #[inline(always)]
 fn is_ascii<const N: usize>(bytes: &[u8]) -> bool
     requires { (0 < N) × (N ≤ 64) × (N ≤ length bytes.now) }

@@ -118,6 +118,7 @@ impl InputBytes {
         self.bytes.as_slice()
     }
 
+    #[tactic(auto, using(crate::proofs::Text::Texts::if_text, crate::proofs::Text::Texts::if_no_text))]
     fn as_text(&self) -> &str
         ensures { result.now ≡ shown_text self.now }
     {

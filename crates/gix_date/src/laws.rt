@@ -33,6 +33,7 @@ mod relative;
 ///
 /// This holds unless memory runs out or the writer fails. The parts are the contract of `parse` and the laws
 /// [`disjoint`], [`exclusive`], [`canonical`] and [`read_back`].
+#[tactic(auto, using(crate::proofs::Printing::PrintedBack::round_trips_by_each))]
 pub fn headline(alloc: Global, text: &str, now: Option<Zoned<'_>>) -> Result<Time, Error>
     ensures first_family { ParseOutcome (first_family text.now) text.now now.entry result }
     ensures disjoint { AreDisjoint is_quarter_offset text.now }
@@ -48,6 +49,7 @@ pub fn headline(alloc: Global, text: &str, now: Option<Zoned<'_>>) -> Result<Tim
 
 /// The whole promise of [`parse_with`], by either rule for the offsets of raw texts. It is that of [`headline`], for
 /// the texts that are raw by this rule.
+#[tactic(auto, using(crate::proofs::Families::Disjoint::are_disjoint, crate::proofs::Printing::PrintedBack::round_trips_by_each))]
 pub fn headline_with(
     alloc: Global,
     text: &str,

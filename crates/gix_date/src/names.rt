@@ -2,9 +2,11 @@
 //!
 //! Dates show the first three letters of a name ([`month_name`], [`day_name`]). A word tells a name by its first three letters or
 //! more, in any letter case ([`month_told`], [`weekday_told`]). No call takes memory.
-ghost use Rattle.std.specs.Prelude.{◌≡◌, ◌<◌, length, if◌then◌else◌, Some, None, IfSome};
+ghost use Rattle.std.specs.Prelude.{◌≡◌, ◌<◌, length, map, option_map, if◌then◌else◌, Some, None, IfSome};
+ghost use Rattle.std.specs.List.{find};
+ghost use Rattle.std.specs.Str.{bytes_eq};
 ghost use Rattle.std.specs.Int.{IsInRange};
-ghost use Rattle.gix_date.specs.Text.Names.{day_name, is_name, month_name};
+ghost use Rattle.gix_date.specs.Text.Names.{day_name, is_name, month_name, name_row, value_named};
 ghost use Rattle.gix_date.specs.Text.LongNames.{begins, month_by, month_told, weekday_by, weekday_told};
 
 /// The name of a month in three letters, from 1 for January.
@@ -48,6 +50,21 @@ pub fn day_name(weekday: u8) -> &'static str
         6 => "Sun",
         _ => unreachable!(),
     }
+}
+
+/// The value beside the first of these names that a word is, in the same letter case.
+pub fn value_named<T: Copy>(rows: &[(&str, T)], word: &str) -> Option<T>
+    ensures { result ≡ value_named (map name_row rows.now) word.now }
+{
+    value_in(rows, word)
+}
+
+/// The same by the rows as they stand.
+fn value_in<T: Copy>(rows: &[(&str, T)], word: &str) -> Option<T>
+    ensures { result ≡ option_map (λ row. row.1) (find (λ row. bytes_eq word.now row.0.now) rows.now) }
+{
+    let row = rows.iter().find(|row| word == row.0)?;
+    Some(row.1)
 }
 
 /// Whether a word is this name, in any letter case. Nearly all that are not differ in the first letter.
@@ -100,6 +117,7 @@ fn month_by(u: u8, v: u8, w: u8, end: &[u8]) -> Option<u8>
 }
 
 /// The month, from 1, that a word tells by the first three letters of its name or more, in any letter case: `Aug`, `august`, `AUGU`.
+#[tactic(auto, using(crate::proofs::Text::LongNames::no_month, crate::proofs::Text::LongNames::month_found, crate::proofs::Text::LongNames::month_in_range))]
 #[inline(always)]
 pub fn month_told(word: &[u8]) -> Option<u8>
     ensures value { result ≡ month_told word.now }
@@ -135,6 +153,7 @@ fn weekday_by(u: u8, v: u8, w: u8, end: &[u8]) -> Option<u8>
 
 /// The day of the week, from 0 for Monday, that a word tells by the first three letters of its name or more, in any letter case:
 /// `Fri`, `friday`, and as Git's names end in `s`, `Fridays`.
+#[tactic(auto, using(crate::proofs::Text::LongNames::no_weekday, crate::proofs::Text::LongNames::weekday_found, crate::proofs::Text::LongNames::weekday_in_range))]
 #[inline(always)]
 pub fn weekday_told(word: &[u8]) -> Option<u8>
     ensures value { result ≡ weekday_told word.now }

@@ -1,28 +1,19 @@
 -- Times, as they are printed for C.
-use Rattle.std.specs.Prelude.{◌≡◌, ◌⊎◌, ◌<◌, ℕ, Bool, true, false, List, [], ◌∷◌, Some, Result, Err, String, string_bytes, slice_get}
+use Rattle.std.specs.Prelude.{◌≡◌, ◌⊎◌, ℕ, Bool, true, false, List, Some, None, Result, Err, String, string_bytes}
 use Rattle.std.specs.Result.{result_map_both}
 use Rattle.std.specs.Global.{Global}
-use Rattle.gix_date.specs.Printing.NamedTexts.{short_pattern, rfc2822_pattern, git_rfc2822_pattern, iso8601_pattern, iso8601_strict_pattern, gitoxide_pattern, default_pattern}
+use Rattle.gix_date.specs.Printing.NamedFormats.{format_numbered, printed_by}
 use Rattle.gix_date.specs.Printing.Formats.{Prints, PrintsOrSeconds, PrintsPattern, PrintsPatternOrSeconds}
 use Rattle.gix_date.specs.declared.error.Error.{Error}
 use Rattle.gix_date.specs.declared.error.Error.TheVariants as errors
 use Rattle.gix_date.specs.declared.time.Time.{Time}
 use Rattle.gix_date.specs.declared.time.format.Format.{Format}
-use Rattle.gix_date.specs.declared.time.format.Format.TheVariants.{Custom, Unix, Raw}
 use Rattle.gix_date_c.specs.declared.values.status.Status.{Status}
 use Rattle.gix_date_c.specs.declared.values.status.Status.TheVariants as statuses
 
--- the patterns of the formats that have one, in the order of their numbers
-abbrev pub named_patterns : List (List ℕ)
-named_patterns =
-    short_pattern ∷ rfc2822_pattern ∷ git_rfc2822_pattern ∷ iso8601_pattern ∷ iso8601_strict_pattern ∷ gitoxide_pattern
-    ∷ default_pattern ∷ []
-
--- the format of a number: the patterns first, then the seconds, and then the header text
+-- the format of a number
 abbrev pub IsFormat : ℕ → Format → Type 0
-IsFormat number (Custom format) = slice_get named_patterns number ≡ Some format.pattern.now
-IsFormat number Unix = number ≡ 7
-IsFormat number Raw = number ≡ 8
+IsFormat number format = format_numbered number ≡ Some (printed_by format)
 
 -- the status of a refusal to print
 abbrev pub print_status : Error → Status
@@ -52,7 +43,7 @@ PrintsPatternSo true = PrintsPatternOrSeconds
 abbrev pub IsFormatted : (Format → Result (String Global) Error → Type 0) → ℕ → Result (List ℕ) Status → Type 0
 IsFormatted Prints number answer =
     ((format : Format) × IsFormat number format × IsPrinted (Prints format) answer)
-    ⊎ ((8 < number) × (answer ≡ Err statuses.NoSuchOption))
+    ⊎ ((format_numbered number ≡ None) × (answer ≡ Err statuses.NoSuchOption))
 
 -- printing by a pattern, which is text or not
 abbrev pub IsPatternPrinted : (Result (String Global) Error → Type 0) → Bool → Result (List ℕ) Status → Type 0

@@ -1,18 +1,16 @@
 //! Times printed.
-ghost use Rattle.std.specs.Prelude.{◌≡◌, Result, IfSome, IfNone, ◌<◌};
+ghost use Rattle.std.specs.Prelude.{◌≡◌, Result};
 ghost use Rattle.std.specs.Str.{is_utf8};
 ghost use Rattle.gix_date.specs.Printing.Formats.{Prints, PrintsPattern, PrintsPatternOrSeconds, PrintsOrSeconds};
 ghost use Rattle.gix_date_c.specs.Values.Buffers.{Outcome, Puts, outcome_of};
-ghost use Rattle.gix_date_c.specs.Printing.{IsFormat, IsFormatted, IsPatternPrinted, IsPrinted, PrintsPatternSo, PrintsSo, print_status, printed_text};
+ghost use Rattle.gix_date_c.specs.Printing.{IsFormatted, IsPatternPrinted, IsPrinted, PrintsPatternSo, PrintsSo, print_status, printed_text};
 ghost use Rattle.gix_date_c.specs.Values.Times.{load_time};
 
 use crate::values::buffer::store_text;
 use crate::values::status::Status;
 use crate::values::text::utf8_text;
 use crate::values::time::{CTime, load_time};
-use gix_date::time::format::{
-    DEFAULT, Format, GIT_RFC2822, GITOXIDE, ISO8601, ISO8601_STRICT, RAW, RFC2822, SHORT, UNIX,
-};
+use gix_date::time::format::{Format, format_numbered};
 use gix_date::{Error, Time};
 use std::alloc::Global;
 
@@ -90,7 +88,7 @@ fn put_formatted(
         out.old (record { bytes = out.new; len = len.new; status = result }) }
 {
     // An arm for each kind of format: where they meet, the text is copied twice more.
-    match format_of(format) {
+    match format_numbered(format as usize) {
         Some(Format::Custom(custom)) => {
             put_in_format(alloc, time, Format::Custom(custom), or_unix, out, len)
         }
@@ -184,24 +182,5 @@ fn print_status(error: Error) -> Status
         Error::OffsetTooWide => Status::OffsetTooWide,
         Error::Memory => Status::Memory,
         _ => Status::Pattern,
-    }
-}
-
-/// The format of a number.
-fn format_of(number: u32) -> Option<Format>
-    ensures format { IfSome result (IsFormat number) }
-    ensures none { IfNone result (8 < number) }
-{
-    match number {
-        0 => Some(SHORT.into()),
-        1 => Some(RFC2822.into()),
-        2 => Some(GIT_RFC2822.into()),
-        3 => Some(ISO8601.into()),
-        4 => Some(ISO8601_STRICT.into()),
-        5 => Some(GITOXIDE.into()),
-        6 => Some(DEFAULT.into()),
-        7 => Some(UNIX),
-        8 => Some(RAW),
-        _ => None,
     }
 }

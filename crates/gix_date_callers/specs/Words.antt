@@ -33,11 +33,12 @@ pub use Rattle.gix_date.specs.Devices.Lending.{LeavesText}
 pub use Rattle.gix_date.specs.Printing.LocalClocks.{clock_of, local_seconds, HasFields, HasFourDigitFields, IsShowable}
 pub use Rattle.gix_date.specs.Printing.NamedTexts.{short_text, rfc2822_text, git_rfc2822_text, iso8601_text, iso8601_strict_text, gitoxide_text, default_text, bare_default_text, short_pattern, rfc2822_pattern, git_rfc2822_pattern, iso8601_pattern, iso8601_strict_pattern, gitoxide_pattern, default_pattern, ShowsFourDigitFields, local_time}
 pub use Rattle.gix_date.specs.Text.LongNames.{begins, month_told, weekday_told}
-pub use Rattle.gix_date.specs.Text.Names.{is_name, day_name, month_name}
+pub use Rattle.gix_date.specs.Text.Names.{is_name, value_named, name_row, day_name, month_name}
 pub use Rattle.gix_date.specs.Text.Numbers.{decimal_text, two_digits}
 pub use Rattle.gix_date.specs.Values.{ComparesParts, AgreesWith, IsEquality, FeedsParts, FeedsAlike}
 pub use Rattle.gix_date.specs.Families.Patterns.{Accepts, IsMeaning, time_answer, real_day_answer, short_layout, rfc2822_layout, iso8601_layout, iso8601_strict_layout, gitoxide_layout, default_layout, short_answer, rfc2822_answer, iso8601_answer, iso8601_strict_answer, gitoxide_answer, default_answer, max_date_offset}
 pub use Rattle.gix_date.specs.Printing.Formats.{IsTextOf, IsPatternText, Prints, PrintsSeconds, PrintsHeader, PrintsPattern, PrintsOrSeconds, HasNoText, HasNoPatternText, PrintsPatternOrSeconds, IsShown, AtMoment}
+pub use Rattle.gix_date.specs.Printing.NamedFormats.{Printed, printed_by, named_formats, format_row, format_named, format_numbered}
 pub use Rattle.gix_date.specs.Printing.FormatBuf.{IsNamedPattern, HasNamedText, HasBufText}
 pub use Rattle.gix_date.specs.Printing.PrintedTimes.{IsPrintedAs, PrintsText}
 pub use Rattle.gix_date.specs.Families.Raw.{raw_time, raw_time_by, max_raw_hours, OffsetRule, is_quarter_offset, is_minute_offset, allows, max_wide_hours, max_wide_minutes}

@@ -5,6 +5,7 @@ ghost use Rattle.gix_date.specs.Families.Raw.{allows};
 use gix_date::{CarefulOptions, RawOffsets};
 
 /// What `parse_carefully` reads, `parse_with` reads as the same time. The exception is a date of the moment's zone.
+#[tactic(auto, using(crate::proofs::Whole::Cases::parsed_too))]
 pub fn careful_is_parsed(text: &str, options: CarefulOptions)
     ensures { IsParsedToo options text.now }
 {}

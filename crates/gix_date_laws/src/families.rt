@@ -36,6 +36,7 @@ pub fn agree(text: &str, raw: RawOffsets)
 
 /// The answer of a family that holds the text is the one that `parse_with` uses, by either rule. A relative text has to
 /// be of no Git form. Only for a relative text does the result depend on the moment.
+#[tactic(auto, using(crate::proofs::Shared::Agreement::comes_first))]
 pub fn comes_first(text: &str, raw: RawOffsets)
     ensures { ComesFirst (allows raw) text.now }
 {}
@@ -43,6 +44,7 @@ pub fn comes_first(text: &str, raw: RawOffsets)
 /// The first family that holds a text is also the first that holds it among the families of its row, by either rule. The
 /// first bytes decide the row, or for a number the whole text, of seven (`row_families`): `@` at the front, a number, a day
 /// with `-`, with `.` or with neither, a letter at the front, and all other texts.
+#[tactic(auto, using(gix_date::proofs::Families::Shapes::is_in_its_row))]
 pub fn dispatched_by_rows(text: &str, raw: RawOffsets)
     ensures { IsInItsRow (allows raw) text.now }
 {}

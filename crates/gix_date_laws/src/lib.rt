@@ -11,6 +11,6 @@ mod values;
 
 pub use careful::{careful_is_parsed, spelled_careful};
 pub use families::{agree, comes_first, dispatched_by_rows, one_outcome, spelled, spelled_git};
-pub use formats::{named_formats, other_formats, printed, short_read_back};
+pub use formats::{printed, short_read_back};
 pub use relative::{earlier, named_instants, named_once, spelled_relative};
 pub use values::{clones, constants, equality, hash, limits, order, white_space};

@@ -10,7 +10,7 @@ use Rattle.std.specs.List.{list_all}
 use Rattle.std.specs.Prelude.{◌==◌, ◌&&◌, ◌||◌, not, nat_lt}
 use Rattle.gix_date.specs.Header.CanonicalBytes.{are_usual_seconds, are_hours_and_minutes, is_usual_offset}
 use Rattle.gix_date.specs.Text.Characters.{newline, space, plus, minus, digit_zero}
-use Rattle.gix_date.proofs.Fast.CanonicalBytes.{usual-canonical}
+use Rattle.gix_date.proofs.Fast.CanonicalBytes.{usual_canonical}
 use Rattle.gix_date_lines.specs.Lines.{IsLine, with_newline}
 use Rattle.gix_date_lines.specs.Usual.{BeginsWithHeader, BeginsWithUnknown}
 
@@ -82,7 +82,7 @@ header-line bytes seconds after x s a b c d e h few k =
       line = line;
       whole = e ∙ sym cut;
       is_line = All-append (λ n. n ≢ newline) seconds offset (seconds-line seconds h) (offset-line x s a b c d k);
-      is_canonical = usual-canonical line seconds offset (length seconds) (sym (take-append_seam seconds offset)) (sym (drop-append_seam seconds offset)) h k;
+      is_canonical = usual_canonical line seconds offset (length seconds) (sym (take-append_seam seconds offset)) (sym (drop-append_seam seconds offset)) h k;
       is_short = omega (arith, length-append seconds offset, few);
     }
 

@@ -1,9 +1,7 @@
 //! The fields of a row, taken one after the other.
 use git_date::DateMode;
 use gix_date::time::Format;
-use gix_date::time::format::{
-    DEFAULT, GIT_RFC2822, GITOXIDE, ISO8601, ISO8601_STRICT, RFC2822, SHORT,
-};
+use gix_date::time::format::format_named;
 use gix_date::{RawOffsets, Texts, Time, WithoutOffset};
 use gix_signature::GitTime;
 use jiff::Timestamp;
@@ -115,22 +113,6 @@ impl<'a> Arguments<'a> {
 
     /// A format, by its name.
     pub(crate) fn format(&mut self) -> Option<Format> {
-        format_of(self.text()?)
+        format_named(self.text()?)
     }
-}
-
-/// The format of this name.
-pub(crate) fn format_of(name: &str) -> Option<Format> {
-    Some(match name {
-        "SHORT" => SHORT.into(),
-        "RFC2822" => RFC2822.into(),
-        "GIT_RFC2822" => GIT_RFC2822.into(),
-        "ISO8601" => ISO8601.into(),
-        "ISO8601_STRICT" => ISO8601_STRICT.into(),
-        "GITOXIDE" => GITOXIDE.into(),
-        "DEFAULT" => DEFAULT.into(),
-        "UNIX" => Format::Unix,
-        "RAW" => Format::Raw,
-        _ => return None,
-    })
 }

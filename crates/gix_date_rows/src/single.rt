@@ -1,10 +1,10 @@
 //! One call that standard input asks for. Nothing here takes memory but the call, so that `tests/memory` can count its requests and
 //! refuse them.
 use crate::answer::Answer;
-use crate::arguments::format_of;
 use crate::calls::converted;
 use gix_date::device::{Device, Sink, Source, put_all};
 use gix_date::parsing::TimeBuf;
+use gix_date::time::format::format_named;
 use gix_date::{Error, RawOffsets, Time, Zoned, parse, parse_header, parse_with};
 use gix_signature::{SignatureError, SignatureRef, write_line};
 use jiff::Timestamp;
@@ -58,7 +58,7 @@ fn answer_to(alloc: Global, call: &str, with: &str, text: &str) -> Answer {
 
 /// What a call that prints a time in the format of this name answers.
 fn printed(alloc: Global, call: &str, name: &str, time: Time) -> Answer {
-    match (call, format_of(name)) {
+    match (call, format_named(name)) {
         ("format", Some(format)) => time.format(alloc, format).into(),
         ("format_or_unix", Some(format)) => time.format_or_unix(alloc, format).into(),
         _ => Answer::Refused("no call"),

@@ -1,4 +1,3 @@
-pub mod Naming
 pub mod Sending
 pub mod Taking
 pub mod Signing

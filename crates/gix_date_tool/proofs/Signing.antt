@@ -8,7 +8,7 @@ use Rattle.gix_signature.specs.Signature.{Parts, IsCut, OneCut, line_of}
 use Rattle.gix_signature.specs.Writing.{line_due}
 use Rattle.gix_signature.specs.declared.error.SignatureError.{SignatureError}
 use Rattle.gix_signature.specs.declared.error.SignatureError.TheVariants.{OffsetTooWide}
-use Rattle.gix_signature.proofs.Cuts.{the-cut, plain}
+use Rattle.gix_signature.proofs.Cuts.{the_cut, plain}
 use Rattle.gix_signature.proofs.Written.{due-is}
 use Rattle.gix_date_tool.specs.Signed.{IsSigned, IsUnsigned}
 
@@ -24,7 +24,7 @@ same-time t r e = ap (λ o. unwrap_or o t) e
 
 -- a text is written again as one line
 pub signed-once : (text a b : List ℕ) → IsSigned text a → IsSigned text b → a ≡ b
-signed-once text a b h g = grind (arith, the-cut, same-time, same-line)
+signed-once text a b h g = grind (arith, the_cut, same-time, same-line)
 
 -- one from whose last part no time is read is not
 pub no-time-unsigned : (text : List ℕ) (p : Parts) → OneCut text → IsCut text p → header_time p.time ≡ None → IsUnsigned text

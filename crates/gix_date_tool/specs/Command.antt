@@ -8,7 +8,7 @@ use Rattle.gix_date.specs.Families.Order.{first_family, first_family_by}
 use Rattle.gix_date.specs.Families.Raw.{is_minute_offset}
 use Rattle.gix_date.specs.Fields.Zoned.{is_convertible, IsConvertible}
 use Rattle.gix_date.specs.declared.time.Time.{Time}
-use Rattle.gix_date_tool.specs.Names.{named_in}
+use Rattle.gix_date.specs.Text.Names.{value_named}
 use Rattle.gix_date_tool.specs.declared.program.arguments.Mode.{Mode}
 use Rattle.gix_date_tool.specs.declared.program.arguments.NoMoment.{NoMoment}
 use Rattle.gix_date_tool.specs.declared.program.arguments.NoMoment.TheVariants.{UnknownFormat, RawOffset, DateConversion, Relative, Conversion}
@@ -20,7 +20,7 @@ use Rattle.gix_date_tool.specs.declared.program.arguments.Mode.TheVariants.{Chec
 
 -- the word `check` asks for Check, `parse` for Parse and `sign` for Sign, without a moment
 abbrev pub mode_of : List ℕ → Option Mode
-mode_of = named_in ((codes "check", Check) ∷ (codes "parse", Parse) ∷ (codes "sign", Sign) ∷ [])
+mode_of = value_named ((codes "check", Check) ∷ (codes "parse", Parse) ∷ (codes "sign", Sign) ∷ [])
 
 -- Why a text that is not read is no moment. By the rule of whole minutes it would be a time, or not.
 abbrev pub why_unread : Option FamilyAnswer → NoMoment

@@ -3,7 +3,6 @@ pub mod Replies
 pub mod Outbox
 pub mod Progress
 pub mod Run
-pub mod Names
 pub mod Command
 pub mod Kinds
 pub mod Messages

@@ -11,7 +11,6 @@ pub use error::ToolError;
 pub use laws::limits;
 pub use program::arguments::{Mode, NoMoment, command, moment, words};
 pub use program::messages::write_message;
-pub use program::names::named;
 pub use program::{Status, execute, show_usage};
 pub use runs::at_once::put_pieces;
 pub use runs::lines::{MAX_LINE_LEN, MAX_LINES};

@@ -8,7 +8,6 @@ pub(crate) mod arguments;
 mod help;
 pub(crate) mod kinds;
 pub(crate) mod messages;
-pub(crate) mod names;
 mod outcome;
 
 use crate::error::ToolError;

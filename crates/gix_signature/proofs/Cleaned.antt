@@ -12,7 +12,7 @@ use Rattle.std.specs.List.{list_all, list_any, filter}
 use Rattle.std.specs.Prelude.{int_lt}
 use Rattle.gix_date.proofs.Fast.FastHeaders.{usual-header}
 use Rattle.gix_date.proofs.Fields.FieldsTaken.{time_at}
-use Rattle.gix_date.proofs.Header.HeaderLaws.{canonical-taken, canonical-back, header-fits, decimal-int, zone-read, written_fields, sign_for}
+use Rattle.gix_date.proofs.Header.HeaderLaws.{canonical_taken, canonical_back, header-fits, decimal-int, zone-read, written_fields, sign_for}
 use Rattle.gix_date.specs.Fields.Offsets.{compact_offset_text, signed}
 use Rattle.gix_date.specs.Header.Reading.{header_time}
 use Rattle.gix_date.specs.Header.Text.{header_text}
@@ -98,9 +98,9 @@ read-in-minutes t f short =
     usual-header (decimal_text t.seconds) (compact_offset_text t.offset) t.seconds (written_fields t.offset) (decimal-int t.seconds f) (zone-read t.offset short)
     ∙ ap (λ o. Some (time_at t.seconds o)) (minutes-said (int_lt t.offset (pos 0)) (unsigned_abs t.offset))
 
-pub canonical-passes : (line : List ℕ) → CanonicalPasses line
-canonical-passes line p t cut canonical read from =
-    let back = canonical-back p.time (canonical-taken p.time canonical) in
+pub canonical_passes : (line : List ℕ) → CanonicalPasses line
+canonical_passes line p t cut canonical read from =
+    let back = canonical_back p.time (canonical_taken p.time canonical) in
     let r = back.time in
     let f = header-fits p.time r back.is_read in
     let is = text-is r p.time f back.is_written in
@@ -135,6 +135,6 @@ module _ (name mail : List ℕ) (t : Time) (f : FitsSigned w64 t.seconds) where
   due-by false false false true h k = tt
   due-by false false false false h k = due-dated (int_lt t.seconds (pos 0)) refl (header_text t) refl (cleaned-part name h) (cleaned-part mail k)
 
-  pub written-passes : WrittenPasses name mail t
+  pub written_passes : WrittenPasses name mail t
   unfolding ident_due
-  written-passes = due-by (list_any is_nul name) (list_any is_nul mail) (length name == 0) (list_all is_crud name) refl refl
+  written_passes = due-by (list_any is_nul name) (list_any is_nul mail) (length name == 0) (list_all is_crud name) refl refl

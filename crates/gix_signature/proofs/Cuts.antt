@@ -71,8 +71,8 @@ the-front line name rest q whole cut =
     (append_cancel_right name q.name blank at.0, at.1)
 
 -- where its marks stand in a line that has a cut, the line is cut, whatever stands between them
-pub the-cut : (line : List ℕ) (p q : Parts) → line ≡ line_of p → IsCut line q → p ≡ q
-the-cut line p q whole cut =
+pub the_cut : (line : List ℕ) (p q : Parts) → line ≡ line_of p → IsCut line q → p ≡ q
+the_cut line p q whole cut =
     let are = plain q cut.allowed in
     let front = the-front line p.name (after_name p) q whole cut in
     let at = one-place is_allowed closing p.mail (32 ∷ p.time) q.mail (32 ∷ q.time) refl are.mail are.time front.1 in
@@ -81,4 +81,4 @@ the-cut line p q whole cut =
 
 -- a line that is taken apart at its marks into what may not stand has no cut
 pub no-cut : (line : List ℕ) (p : Parts) → line ≡ line_of p → are_parts p ≡ false → (q : Parts) → IsCut line q → ⊥
-no-cut line p whole bad q cut = grind (arith, the-cut)
+no-cut line p whole bad q cut = grind (arith, the_cut)

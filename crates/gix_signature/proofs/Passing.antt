@@ -20,8 +20,8 @@ use Rattle.gix_signature.specs.Ident.Laws.{PassesAs, in_minutes}
 use Rattle.gix_signature.specs.declared.fsck.FsckId.{FsckId}
 use Rattle.gix_signature.specs.declared.fsck.FsckId.TheVariants.{NulInHeader, MissingNameBeforeEmail, BadName, MissingEmail, MissingSpaceBeforeEmail, BadEmail, MissingSpaceBeforeDate, ZeroPaddedDate, BadDateOverflow, BadDate, BadTimezone}
 use Rattle.gix_signature.proofs.Cuts.{ArePlain, all-of, marked, no-opening, after_name}
-use Rattle.gix_signature.proofs.Texts.{none-there}
-use Rattle.gix_signature.proofs.Shown.{Cut, cut-of, run-len, run-all, place-at, there-at, last-len, end-more, all-before, all-on, goes_on, no-closing}
+use Rattle.gix_signature.proofs.Texts.{none_there}
+use Rattle.gix_signature.proofs.Shown.{Cut, cut-of, run-len, run-all, place-at, there-at, last-len, end-more, all_stand_before, all-on, goes_on, no-closing}
 use Rattle.gix_signature.proofs.DateTexts.{IsDate, no-date-fault, parts, stays, front-more, are-decimal, date-is, time-is}
 
 -- a line without a fault has no first one
@@ -35,7 +35,7 @@ first-none line none = find-none (has_fault line) none fsck_ids
 
 -- no byte of a text passes
 none-passes : (p : ℕ → Bool) (xs : List ℕ) → list_all (λ c. not (p c)) xs ≡ true → list_any p xs ≡ false
-none-passes p xs h = none-there p xs (run-all (λ c. not (p c)) xs h)
+none-passes p xs h = none_there p xs (run-all (λ c. not (p c)) xs h)
 
 from-at : (p : ℕ → Bool) (xs ys : List ℕ) (c : ℕ) → list_all (λ b. not (p b)) xs ≡ true → p c ≡ true → from_first p (xs ++ (c ∷ ys)) ≡ c ∷ ys
 from-at p xs ys c others is = ap (λ n. drop n (xs ++ (c ∷ ys))) (place-at p xs ys c others is) ∙ drop-append_seam xs (c ∷ ys)
@@ -155,7 +155,7 @@ module _ (name mail : List ℕ) (n d : ℕ) (ds : List ℕ) (s : ℕ) (zs : List
 
     pub no-message : fsck_of line ≡ None
     unfolding fsck_of
-    no-message = ap (λ l. option_map (fault_at l) (first_fault l)) (all-before is_newline line no-newline) ∙ ap (λ o. option_map (fault_at line) o) (first-none line no-fault)
+    no-message = ap (λ l. option_map (fault_at l) (first_fault l)) (all_stand_before is_newline line no-newline) ∙ ap (λ o. option_map (fault_at line) o) (first-none line no-fault)
 
     tail : date_text line ≡ date
     tail =
@@ -171,7 +171,7 @@ module _ (name mail : List ℕ) (n d : ℕ) (ds : List ℕ) (s : ℕ) (zs : List
         ∙ ap (λ o. Some (record { name = without_end is_blank name; mail = mail; date = o })) (ap date_parts tail ∙ parts n d ds s zs is)
 
     pub shown : ident_parts line ≡ Some (record { name = without_end is_blank name; mail = mail; date = Some (record { seconds = d ∷ ds; offset = zone }) })
-    shown = ap line_parts (all-before ends_line line goes-on) ∙ shown-so
+    shown = ap line_parts (all_stand_before ends_line line goes-on) ∙ shown-so
 
 -- The line of plain parts and a time from the epoch on.
 pub passes-as : (name mail : List ℕ) (n : ℕ) (o : ℤ) → n < too_many_seconds → unsigned_abs o < 360000

@@ -12,7 +12,7 @@ use Rattle.gix_signature.specs.Ident.Texts.{without_end}
 use Rattle.gix_signature.specs.Ident.Parts.{IdentText, line_parts, has_identity, date_parts, date_text}
 use Rattle.gix_signature.specs.Ident.Laws.{CutIsShown}
 use Rattle.gix_signature.proofs.Cuts.{ArePlain, plain, all-of, marked, no-opening, after_name}
-use Rattle.gix_signature.proofs.Texts.{one-there}
+use Rattle.gix_signature.proofs.Texts.{one_there}
 
 -- all of a run at the front passes
 pub run-before : (p : ℕ → Bool) (xs ys : List ℕ) → list_all p xs ≡ true → prefix_len p (xs ++ ys) ≡ length xs + prefix_len p ys
@@ -44,7 +44,7 @@ pub after-at : (p : ℕ → Bool) (xs ys : List ℕ) (c : ℕ) → list_all (λ 
 after-at p xs ys c others is = ap (λ n. drop (n + 1) (xs ++ (c ∷ ys))) (place-at p xs ys c others is) ∙ drop-append-add xs (c ∷ ys) 1
 
 pub there-at : (p : ℕ → Bool) (xs ys : List ℕ) (c : ℕ) → list_all (λ b. not (p b)) xs ≡ true → p c ≡ true → list_any p (xs ++ (c ∷ ys)) ≡ true
-there-at p xs ys c others is = grind (arith, one-there, place-at, length-append)
+there-at p xs ys c others is = grind (arith, one_there, place-at, length-append)
 
 -- one more byte at the end
 pub last-len : (p : ℕ → Bool) (xs : List ℕ) (c : ℕ) → suffix_len p (xs ++ (c ∷ [])) ≡ cond (p c) (1 + suffix_len p xs) 0
@@ -81,8 +81,8 @@ pub all-on : (p : Parts) → ArePlain p → list_all goes_on (line_of p) ≡ tru
 all-on p are = grind (arith, all-append, after_name, on)
 
 -- without such a byte all of a text stands before it
-pub all-before : (p : ℕ → Bool) (xs : List ℕ) → list_all (λ c. not (p c)) xs ≡ true → before_first p xs ≡ xs
-all-before p xs h = ap (λ n. take n xs) (run-all (λ c. not (p c)) xs h) ∙ take_all (length xs) xs (omega arith)
+pub all_stand_before : (p : ℕ → Bool) (xs : List ℕ) → list_all (λ c. not (p c)) xs ≡ true → before_first p xs ≡ xs
+all_stand_before p xs h = ap (λ n. take n xs) (run-all (λ c. not (p c)) xs h) ∙ take_all (length xs) xs (omega arith)
 
 -- the name with the space after it, and what stands between the brackets
 pub record Cut (line : List ℕ) (p : Parts) : Type 0 where
@@ -118,8 +118,8 @@ shown : (line : List ℕ) (p : Parts) → Cut line p → IsSomeAnd (line_parts l
 unfolding line_parts
 shown line p cut = shown-by line p cut (has_identity line) refl cut.has
 
-pub cut-is-shown : (line : List ℕ) → CutIsShown line
-cut-is-shown line p h =
+pub cut_is_shown : (line : List ℕ) → CutIsShown line
+cut_is_shown line p h =
     let are = plain p h.allowed in
     let cut = cut-of p are in
-    rw (h.whole, all-before ends_line (line_of p) (all-on p are)) (shown (line_of p) p cut)
+    rw (h.whole, all_stand_before ends_line (line_of p) (all-on p are)) (shown (line_of p) p cut)

@@ -11,18 +11,18 @@ place-step true n m r h = grind (arith, nat_tests)
 place-step false n m r h = grind (arith, nat_tests, h)
 
 -- a place within the text tells whether there is such a byte
-pub place-within : (p : ℕ → Bool) (xs : List ℕ) → nat_lt (position_or_len p xs) (length xs) ≡ list_any p xs
-place-within p [] = refl
-place-within p (x ∷ xs) = place-step (p x) (position_or_len p xs) (length xs) (list_any p xs) (place-within p xs)
+pub place_within : (p : ℕ → Bool) (xs : List ℕ) → nat_lt (position_or_len p xs) (length xs) ≡ list_any p xs
+place_within p [] = refl
+place_within p (x ∷ xs) = place-step (p x) (position_or_len p xs) (length xs) (list_any p xs) (place_within p xs)
 
-pub none-there : (p : ℕ → Bool) (xs : List ℕ) → position_or_len p xs ≡ length xs → list_any p xs ≡ false
-none-there p xs e = sym (place-within p xs) ∙ grind (arith, nat_tests, e)
+pub none_there : (p : ℕ → Bool) (xs : List ℕ) → position_or_len p xs ≡ length xs → list_any p xs ≡ false
+none_there p xs e = sym (place_within p xs) ∙ grind (arith, nat_tests, e)
 
-pub one-there : (p : ℕ → Bool) (xs : List ℕ) → position_or_len p xs < length xs → list_any p xs ≡ true
-one-there p xs h = sym (place-within p xs) ∙ grind (arith, nat_tests, h)
+pub one_there : (p : ℕ → Bool) (xs : List ℕ) → position_or_len p xs < length xs → list_any p xs ≡ true
+one_there p xs h = sym (place_within p xs) ∙ grind (arith, nat_tests, h)
 
-pub after-place : (n : ℕ) (xs : List ℕ) → drop 1 (drop n xs) ≡ drop (n + 1) xs
-after-place n xs = drop-drop 1 n xs
+pub after_place : (n : ℕ) (xs : List ℕ) → drop 1 (drop n xs) ≡ drop (n + 1) xs
+after_place n xs = drop-drop 1 n xs
 
 pub add-one-front : (n : ℕ) → 1 + n ≡ suc n
 add-one-front n = omega arith

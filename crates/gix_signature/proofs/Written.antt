@@ -12,7 +12,7 @@ use Rattle.gix_date.specs.Fields.Offsets.{compact_offset_text}
 use Rattle.gix_date.specs.Devices.StreamState.{StreamState, Takes}
 use Rattle.gix_date.specs.Text.Numbers.{decimal_text, two_digits}
 use Rattle.gix_date.specs.declared.time.Time.{Time}
-use Rattle.gix_date.proofs.Header.HeaderLaws.{written-is-read}
+use Rattle.gix_date.proofs.Header.HeaderLaws.{written_text_is_read}
 use Rattle.gix_signature.specs.Signature.{is_allowed, is_part, line_of}
 use Rattle.gix_signature.specs.Writing.{line_due, parts_due, WritesLine, IsWritten}
 use Rattle.gix_signature.specs.declared.error.SignatureError.{SignatureError}
@@ -75,11 +75,11 @@ due-by name mail t f true parts (Some text) h =
       text = text;
       is_text = h;
       cut = record { whole = refl; allowed = and_from (is_part name && is_part mail && is_part text) _ (and_from (is_part name && is_part mail) _ parts is.stands) is.some };
-      back = λ whole. subst (λ r. IsSomeAnd r (λ x. header_time x ≡ Some t)) h (written-is-read t f is.short whole);
+      back = λ whole. subst (λ r. IsSomeAnd r (λ x. header_time x ≡ Some t)) h (written_text_is_read t f is.short whole);
     }
 
-pub written-is-cut : (name mail : List ℕ) (t : Time) → FitsSigned w64 t.seconds → IfOk (line_due name mail t) (IsWritten name mail t)
-written-is-cut name mail t f = due-by name mail t f (is_part name && is_part mail) refl (header_text t) refl
+pub written_is_cut : (name mail : List ℕ) (t : Time) → FitsSigned w64 t.seconds → IfOk (line_due name mail t) (IsWritten name mail t)
+written_is_cut name mail t f = due-by name mail t f (is_part name && is_part mail) refl (header_text t) refl
 
 -- What writing comes to.
 pub due-is : (name mail : List ℕ) (t : Time) → is_part name ≡ true → is_part mail ≡ true
@@ -95,4 +95,4 @@ wrote-by (Err d) Is old new (Err e) is h = tt
 
 pub wrote : (name mail : List ℕ) (t : Time) (old new : StreamState) (r : Result (Unit {0}) SignatureError) → FitsSigned w64 t.seconds → WritesLine (line_due name mail t) old new r
     → OnOk r ((line : List ℕ) × IsWritten name mail t line × Takes old new line)
-wrote name mail t old new r f h = wrote-by (line_due name mail t) (IsWritten name mail t) old new r (written-is-cut name mail t f) h
+wrote name mail t old new r f h = wrote-by (line_due name mail t) (IsWritten name mail t) old new r (written_is_cut name mail t f) h

@@ -169,6 +169,7 @@ fn is_fsck_zone(text: &[u8]) -> bool
 }
 
 /// Whether a line has a bracket.
+#[tactic(auto, using(crate::proofs::Texts::place_within))]
 fn has_bracket(line: &[u8]) -> bool
     ensures { result ≡ list_any is_bracket line.now }
 {

@@ -70,6 +70,7 @@ impl<'a> SignatureRef<'a> {
 /// [`SignatureError::Write`] carries the writer's fault after a proper prefix of the line. There is no flush.
 /// [`SignatureRef::from_line`] cuts what was written into these parts; their time is read again if its offset is whole
 /// minutes.
+#[tactic(auto, using(crate::proofs::Written::wrote))]
 pub fn write_line<W: Sink>(
     name: &str,
     mail: &str,

@@ -50,10 +50,12 @@ from .reading import is_canonical_header, parse, parse_carefully, parse_header
 from .signatures import FsckFault, FsckId, GitTime, Ident, IdentDate, Signature, fsck, parse_ident, write_ident, write_signature
 from .times import Time
 
-SHORT, RFC2822, GIT_RFC2822, ISO8601, ISO8601_STRICT, GITOXIDE, DEFAULT, UNIX, RAW = (
-    Format.SHORT, Format.RFC2822, Format.GIT_RFC2822, Format.ISO8601, Format.ISO8601_STRICT, Format.GITOXIDE, Format.DEFAULT,
-    Format.UNIX, Format.RAW,
+# Made by scripts/formats.
+UNIX, RAW, SHORT, RFC2822, GIT_RFC2822, ISO8601, ISO8601_STRICT, GITOXIDE, DEFAULT = (
+    Format.UNIX, Format.RAW, Format.SHORT, Format.RFC2822, Format.GIT_RFC2822, Format.ISO8601, Format.ISO8601_STRICT, Format.GITOXIDE,
+    Format.DEFAULT,
 )  # fmt: skip
+# Made until here.
 
 _library.connect(
     moment=Moment,

@@ -38,25 +38,27 @@ class Texts(Enum):
 
 
 class Format(Enum):
-    """What a time is printed as. The examples print 1660797906 +0800.
+    # Made by scripts/formats.
+    """What a time is printed as:
 
-    - SHORT: `2022-08-18`
-    - RFC2822: `Thu, 18 Aug 2022 12:45:06 +0800`, with two digits of the day
-    - GIT_RFC2822: `Thu, 18 Aug 2022 12:45:06 +0800`, with as few digits of the day as it has
-    - ISO8601: `2022-08-18 12:45:06 +0800`
-    - ISO8601_STRICT: `2022-08-18T12:45:06+08:00`
-    - GITOXIDE: `Thu Aug 18 2022 12:45:06 +0800`
-    - DEFAULT: `Thu Aug 18 12:45:06 2022 +0800`
-    - UNIX: `1660797906`
-    - RAW: `1660797906 +0800`
+    - UNIX: `123456789`
+    - RAW: `1660874655 +0800`
+    - SHORT: `2018-12-24`
+    - RFC2822: `Mon, 08 Aug 2022 12:45:06 +0800`
+    - GIT_RFC2822: `Mon, 8 Aug 2022 12:45:06 +0800`
+    - ISO8601: `2022-08-17 22:04:58 +0200`
+    - ISO8601_STRICT: `2022-08-17T21:43:13+08:00`
+    - GITOXIDE: `Sun Sep 04 2022 10:45:06 -0400`
+    - DEFAULT: `Sun Sep 4 10:45:06 2022 -0400`
     """
 
-    SHORT = 0
-    RFC2822 = 1
-    GIT_RFC2822 = 2
-    ISO8601 = 3
-    ISO8601_STRICT = 4
-    GITOXIDE = 5
-    DEFAULT = 6
-    UNIX = 7
-    RAW = 8
+    UNIX = 0
+    RAW = 1
+    SHORT = 2
+    RFC2822 = 3
+    GIT_RFC2822 = 4
+    ISO8601 = 5
+    ISO8601_STRICT = 6
+    GITOXIDE = 7
+    DEFAULT = 8
+    # Made until here.

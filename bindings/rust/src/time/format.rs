@@ -3,43 +3,49 @@
 use super::{CustomFormat, Format};
 use crate::{calls, Error, Time};
 
-/// `2022-08-18`
-pub const SHORT: CustomFormat = CustomFormat("%Y-%m-%d");
-
-/// `Thu, 08 Sep 2022 12:45:06 +0800`, with two digits of the day
-pub const RFC2822: CustomFormat = CustomFormat("%a, %d %b %Y %H:%M:%S %z");
-
-/// `Thu, 8 Sep 2022 12:45:06 +0800`, as `git log --pretty=%aD` prints
-pub const GIT_RFC2822: CustomFormat = CustomFormat("%a, %-d %b %Y %H:%M:%S %z");
-
-/// `2022-08-18 12:45:06 +0800`
-pub const ISO8601: CustomFormat = CustomFormat("%Y-%m-%d %H:%M:%S %z");
-
-/// `2022-08-18T12:45:06+08:00`
-pub const ISO8601_STRICT: CustomFormat = CustomFormat("%Y-%m-%dT%H:%M:%S%:z");
-
-/// `Thu Sep 08 2022 12:45:06 +0800`
-pub const GITOXIDE: CustomFormat = CustomFormat("%a %b %d %Y %H:%M:%S %z");
-
-/// `Thu Sep 8 12:45:06 2022 +0800`, as `git log --pretty=%ad` prints
-pub const DEFAULT: CustomFormat = CustomFormat("%a %b %-d %H:%M:%S %Y %z");
-
-/// `1660797906`
+// Made by scripts/formats.
+/// Seconds since 1970-01-01 00:00:00 UTC: `123456789`.
 pub const UNIX: Format = Format::Unix;
 
-/// `1660797906 +0800`
+/// A time as in a commit header: `1660874655 +0800`.
 pub const RAW: Format = Format::Raw;
 
-/// The patterns that the library has by a number, which is their place here.
-const NAMED: [CustomFormat; 7] = [
-    SHORT,
-    RFC2822,
-    GIT_RFC2822,
-    ISO8601,
-    ISO8601_STRICT,
-    GITOXIDE,
-    DEFAULT,
+/// A day: `2018-12-24`.
+pub const SHORT: CustomFormat = CustomFormat("%Y-%m-%d");
+
+/// An RFC 2822 date: `Mon, 08 Aug 2022 12:45:06 +0800`.
+pub const RFC2822: CustomFormat = CustomFormat("%a, %d %b %Y %H:%M:%S %z");
+
+/// An RFC 2822 date without a zero before the day, as Git prints it (`git log --pretty=%aD`): `Mon,
+/// 8 Aug 2022 12:45:06 +0800`.
+pub const GIT_RFC2822: CustomFormat = CustomFormat("%a, %-d %b %Y %H:%M:%S %z");
+
+/// A date after ISO 8601, as Git prints it (`git log --pretty=%ai`): `2022-08-17 22:04:58 +0200`.
+pub const ISO8601: CustomFormat = CustomFormat("%Y-%m-%d %H:%M:%S %z");
+
+/// A date in the strict form of ISO 8601, as Git 2.39 prints it (`git log --pretty=%aI`):
+/// `2022-08-17T21:43:13+08:00`.
+pub const ISO8601_STRICT: CustomFormat = CustomFormat("%Y-%m-%dT%H:%M:%S%:z");
+
+/// A date as gitoxide prints it: `Sun Sep 04 2022 10:45:06 -0400`.
+pub const GITOXIDE: CustomFormat = CustomFormat("%a %b %d %Y %H:%M:%S %z");
+
+/// A date as Git prints it by default (`git log --pretty=%ad`): `Sun Sep 4 10:45:06 2022 -0400`.
+pub const DEFAULT: CustomFormat = CustomFormat("%a %b %-d %H:%M:%S %Y %z");
+
+/// The named formats, each beside its name, in the order of their numbers.
+pub const NAMED: [(&str, Format); 9] = [
+    ("UNIX", UNIX),
+    ("RAW", RAW),
+    ("SHORT", Format::Custom(SHORT)),
+    ("RFC2822", Format::Custom(RFC2822)),
+    ("GIT_RFC2822", Format::Custom(GIT_RFC2822)),
+    ("ISO8601", Format::Custom(ISO8601)),
+    ("ISO8601_STRICT", Format::Custom(ISO8601_STRICT)),
+    ("GITOXIDE", Format::Custom(GITOXIDE)),
+    ("DEFAULT", Format::Custom(DEFAULT)),
 ];
+// Made until here.
 
 /// How the library is asked for a format. It prints by a number without reading a pattern, so faster.
 #[derive(Debug, PartialEq, Eq)]
@@ -50,15 +56,10 @@ enum Request {
 
 impl From<Format> for Request {
     fn from(format: Format) -> Request {
-        match format {
-            Format::Unix => Request::Number(7),
-            Format::Raw => Request::Number(8),
-            Format::Custom(custom) => (0..)
-                .zip(NAMED)
-                .find(|(_, named)| *named == custom)
-                .map_or(Request::Pattern(custom.0), |(number, _)| {
-                    Request::Number(number)
-                }),
+        let number = NAMED.iter().position(|(_, named)| *named == format);
+        match (number, format) {
+            (None, Format::Custom(custom)) => Request::Pattern(custom.0),
+            (number, _) => Request::Number(number.unwrap_or_default() as u32),
         }
     }
 }
@@ -117,29 +118,13 @@ impl Time {
 #[cfg(test)]
 mod tests {
     use super::*;
-    use crate::header::{numbers, GIX_DATE};
-
-    fn format_of(name: &str) -> Format {
-        match name {
-            "Short" => SHORT.into(),
-            "Rfc2822" => RFC2822.into(),
-            "GitRfc2822" => GIT_RFC2822.into(),
-            "Iso8601" => ISO8601.into(),
-            "Iso8601Strict" => ISO8601_STRICT.into(),
-            "Gitoxide" => GITOXIDE.into(),
-            "Default" => DEFAULT.into(),
-            "Unix" => UNIX,
-            "Raw" => RAW,
-            _ => panic!("the header has a format {name}"),
-        }
-    }
+    use crate::header::GIX_DATE;
 
     #[test]
     fn each_format_has_the_number_of_the_header() {
-        let numbers = numbers(GIX_DATE, "gix_date_named_format", "GIX_DATE_");
-        assert_eq!(numbers.len(), 9);
-        for (name, number) in numbers {
-            assert_eq!(Request::from(format_of(&name)), Request::Number(number));
+        for (number, (name, format)) in (0..).zip(NAMED) {
+            assert!(GIX_DATE.contains(&format!("GIX_DATE_{name} = {number}")), "{name}");
+            assert_eq!(Request::from(format), Request::Number(number));
         }
     }
 
@@ -157,8 +142,10 @@ mod tests {
     fn numbers_print_their_patterns() {
         for seconds in [-1, 0, 1660797906, 1662583506] {
             let time = Time::new(seconds, -12600);
-            for named in NAMED {
-                assert_eq!(time.format(named), time.format_by_pattern(named.0));
+            for (_, named) in NAMED {
+                if let Format::Custom(custom) = named {
+                    assert_eq!(time.format(named), time.format_by_pattern(custom.0));
+                }
             }
         }
     }

@@ -205,12 +205,12 @@ module _ (seconds offset_is : List ℕ) (n : ℕ) (offset : ℤ) (s : WritesSeco
       ∙ (λ i. Some (s.is i, minutes i)) in
       whole-said now text (no-nul text (ap has_nul are ∙ free)) ∙ ap (λ (o : Option (ℕ × ℤ)). at_or_fields now text o) found ∙ said-is n offset instant
 
-pub raw-text : (text : List ℕ) (n : ℕ) (minutes : ℤ) → WritesRaw text (n, minutes) → Says text (said_at n minutes)
-raw-text text n minutes w = subst (λ (text : List ℕ). Says text (said_at n minutes)) w.is (raw-says w.seconds w.offset n minutes w.is_seconds w.is_offset)
+pub raw_text_is : (text : List ℕ) (n : ℕ) (minutes : ℤ) → WritesRaw text (n, minutes) → Says text (said_at n minutes)
+raw_text_is text n minutes w = subst (λ (text : List ℕ). Says text (said_at n minutes)) w.is (raw-says w.seconds w.offset n minutes w.is_seconds w.is_offset)
 
-pub at-text : (text : List ℕ) (n : ℕ) (minutes : ℤ) → 1 ≤ length text → get_or text 0 0 ≡ at_sign → WritesRaw (take (length text - 1) (drop 1 text)) (n, minutes)
+pub at_text_is : (text : List ℕ) (n : ℕ) (minutes : ℤ) → 1 ≤ length text → get_or text 0 0 ≡ at_sign → WritesRaw (take (length text - 1) (drop 1 text)) (n, minutes)
     → Says text (said_at n minutes)
-at-text [] n minutes some is w = absurd (omega arith)
-at-text (c ∷ text) n minutes some is w =
+at_text_is [] n minutes some is w = absurd (omega arith)
+at_text_is (c ∷ text) n minutes some is w =
     let rest : take (length (c ∷ text) - 1) text ≡ text = take_all (length (c ∷ text) - 1) text (omega arith) in
     subst (λ (text : List ℕ). Says text (said_at n minutes)) (λ i. sym is i ∷ (w.is ∙ rest) i) (at-says w.seconds w.offset n minutes w.is_seconds w.is_offset)

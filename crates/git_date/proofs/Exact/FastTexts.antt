@@ -56,8 +56,8 @@ module _ (weekday : ℕ) (date clock : ℕ × ℕ × ℕ) (offset : ℤ) (clock_
 pub joined : (text front back : List ℕ) (n : ℕ) → front ≡ take n text → back ≡ drop n text → front ++ back ≡ text
 joined text front back n f b = ap₂ (λ (x y : List ℕ). x ++ y) f b ∙ take-append-drop n text
 
-pub made-says : (text : List ℕ) (f made : Fields) → made ≡ f → SaysFields text f → SaysFields text made
-made-says text f made is says now = says now ∙ sym (ap (λ (f : Fields). fields_said text (Ok (record { fields = f; ignored = None }))) is)
+pub made_says : (text : List ℕ) (f made : Fields) → made ≡ f → SaysFields text f → SaysFields text made
+made_says text f made is says now = says now ∙ sym (ap (λ (f : Fields). fields_said text (Ok (record { fields = f; ignored = None }))) is)
 
 -- a day, as it is written
 is-day : (text : List ℕ) (n : ℕ) → WritesDay text n → IsDayText n text
@@ -73,14 +73,14 @@ time-is back clock offset w = ap₂ (λ (x y : List ℕ). space ∷ (x ++ (space
 
 -- `2022-08-18 12:45:06 +0800`, `2022-08-18T12:45:06+08:00`
 module _ (text front back : List ℕ) (date clock : ℕ × ℕ × ℕ) (offset : ℤ) (whole : front ++ back ≡ text) (d : WritesDate front date) where
-  pub iso-says : WritesTime back (clock, offset) → SaysFields text (fields_in date clock offset)
-  iso-says w =
+  pub iso_says : WritesTime back (clock, offset) → SaysFields text (fields_in date clock offset)
+  iso_says w =
       says 0 date clock offset _ _ compact_offset_text (omega arith) d.within w.is_clock w.is_offset text _
       (λ now. iso-reads d.mark (date-mark d.mark d.is_mark) now _ (git-clock 0 date clock offset _ _ compact_offset_text (omega arith) d.within w.is_clock w.is_offset))
       (ap₂ (λ (x y : List ℕ). x ++ y) d.is (time-is back clock offset w) ∙ whole)
 
-  pub strict-says : WritesStrictTime back (clock, offset) → SaysFields text (fields_in date clock offset)
-  strict-says w =
+  pub strict_says : WritesStrictTime back (clock, offset) → SaysFields text (fields_in date clock offset)
+  strict_says w =
       says 0 date clock offset _ _ strict_offset_text (omega arith) d.within w.is_clock w.is_offset text _
       (λ now. strict-reads d.mark (date-mark d.mark d.is_mark) now _ (git-clock 0 date clock offset _ _ strict_offset_text (omega arith) d.within w.is_clock w.is_offset))
       (ap₂ (λ (x y : List ℕ). x ++ y) d.is (ap₂ (λ (x y : List ℕ). letter_t ∷ (x ++ y)) w.is_clock.is w.is_offset.is ∙ w.is) ∙ whole)
@@ -102,9 +102,9 @@ mail-is text date d =
     let r = d.is_rest in
     ap₂ (λ (m y : List ℕ). d.day ++ (space ∷ (m ++ (space ∷ y)))) r.is_month.is r.is_year.is ∙ ap (λ (rest : List ℕ). d.day ++ rest) r.is ∙ d.is
 
-pub mail-says : (text front back : List ℕ) (date clock : ℕ × ℕ × ℕ) (offset : ℤ) → front ++ back ≡ text → WritesMailDay front date → WritesTime back (clock, offset)
+pub mail_says : (text front back : List ℕ) (date clock : ℕ × ℕ × ℕ) (offset : ℤ) → front ++ back ≡ text → WritesMailDay front date → WritesTime back (clock, offset)
     → SaysFields text (fields_in date clock offset)
-mail-says text front back date clock offset whole n w =
+mail_says text front back date clock offset whole n w =
     let d = n.is_rest in
     let day = d.day in
     let within = mail-within n.rest date d in

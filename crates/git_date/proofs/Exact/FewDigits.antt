@@ -266,8 +266,8 @@ unfolding reading_of
 tame-steps now text q =
     no-seconds NoMinute Tame (λ year minute e. rw e refl) (λ run q. q.1) now (digits-quiet now) text (length text) nothing_read (tokens text) refl q
 
-pub few-digits : (now : Now) (text : List ℕ) → has_few_digits text ≡ true → fields_said text (reading_of now text) ≡ Err Unreadable
-few-digits now text e =
+pub digits_are_few : (now : Now) (text : List ℕ) → has_few_digits text ≡ true → fields_said text (reading_of now text) ≡ Err Unreadable
+digits_are_few now text e =
     let both = and_parts (not (has_colon text)) (nat_lt (count_by is_ascii_digit text) 3) e in
     let has = plain-of text (not-true (has_colon text) both.0) in
     let few = has.few in

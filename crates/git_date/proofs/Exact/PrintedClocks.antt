@@ -8,7 +8,7 @@ use Rattle.std.specs.Str.{all_ascii_digits}
 use Rattle.std.proofs.lemmas.Bool.Decides.{nat_tests}
 use Rattle.std.proofs.lemmas.Bool.{and_parts, cases_order}
 use Rattle.std.proofs.lemmas.Fmt.{decimal_digit}
-use Rattle.gix_date.proofs.Printing.ReadBack.{day-is, month-is}
+use Rattle.gix_date.proofs.Printing.ReadBack.{day_is_named, month-is}
 use Rattle.gix_date.proofs.Printing.ShownPieces.{decimal-two}
 use Rattle.gix_date.specs.Text.Characters.{space, plus, minus, colon, comma, dot, letter_t}
 use Rattle.gix_date.specs.Text.Names.{day_name, month_name}
@@ -230,7 +230,7 @@ name-first (a ∷ b ∷ c ∷ []) rest byte more h e = letters-first a b c rest 
 name-first x rest byte more h e = absurd h
 
 day-before : (n : ℕ) (rest : List ℕ) (byte : ℕ) (more : List Token) → n < 7 → tokens rest ≡ Mark byte ∷ more → tokens (day_name n ++ rest) ≡ Letters (day_name n) ∷ Mark byte ∷ more
-day-before n rest byte more h = name-first (day_name n) rest byte more (day-is n h).0
+day-before n rest byte more h = name-first (day_name n) rest byte more (day_is_named n h).0
 
 month-before : (n : ℕ) (rest : List ℕ) (byte : ℕ) (more : List Token) → 1 ≤ n → n ≤ 12 → tokens rest ≡ Mark byte ∷ more → tokens (month_name n ++ rest) ≡ Letters (month_name n) ∷ Mark byte ∷ more
 month-before n rest byte more l h = name-first (month_name n) rest byte more (month-is n l h).0

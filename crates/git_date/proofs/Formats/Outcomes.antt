@@ -11,10 +11,10 @@ use Rattle.git_date.specs.Formats.Shown.{Shown, shown_at}
 abbrev by_pieces : List ℕ → Option Shown → Option (List ℕ)
 by_pieces format found = found >>= shown_pieces (pieces_or_none format)
 
-pub none-shown : (zone : TimeZone) (local : Bool) (format : List ℕ) (t : Time) → None ≡ shown_at zone local t
+pub none_shown : (zone : TimeZone) (local : Bool) (format : List ℕ) (t : Time) → None ≡ shown_at zone local t
     → None ≡ shown_by_format zone local format t
 unfolding shown_by_format
-none-shown zone local format t e = ap (by_pieces format) e
+none_shown zone local format t e = ap (by_pieces format) e
 
 pub refused : (zone : TimeZone) (local : Bool) (format : List ℕ) (t : Time) (shown : Shown) → Some shown ≡ shown_at zone local t
     → (is_none shown.seconds && asks_seconds (pieces_or_none format)) ≡ true → None ≡ shown_by_format zone local format t

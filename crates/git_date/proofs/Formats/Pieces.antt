@@ -32,9 +32,9 @@ made-letter text m e =
     )
 
 -- a format may be cut after it
-pub cut-after : (text after : List ℕ) (place : ℕ) (m : Made) → 0 < length text → IsUtf8 text → after ≡ drop 1 text → Ok m ≡ made_at after
+pub cut_after : (text after : List ℕ) (place : ℕ) (m : Made) → 0 < length text → IsUtf8 text → after ≡ drop 1 text → Ok m ≡ made_at after
     → place ≡ letter_place after → IsCharBoundary text (place + 2)
-cut-after text after place m h u is e at =
+cut_after text after place m h u is e at =
     let p = made-letter after m (sym e) in
     let place_is : letter_place after ≡ place = sym at in
     let len : length after ≡ length text - 1 = ap (λ (xs : List ℕ). length xs) is ∙ length-drop 1 text in
@@ -50,10 +50,10 @@ pub percent-first : (c : ℕ) (rest : List ℕ) → c ≡ percent → next_piece
 unfolding next_piece
 percent-first c rest e = ap (λ (x : ℕ). next_piece (x ∷ rest)) e
 
-pub next-fault : (text after : List ℕ) (fault : FormatFault) → 0 < length text → get_or text 0 0 ≡ percent → after ≡ drop 1 text
+pub next_fault : (text after : List ℕ) (fault : FormatFault) → 0 < length text → get_or text 0 0 ≡ percent → after ≡ drop 1 text
     → Err fault ≡ made_at after → Err fault ≡ next_piece text
-next-fault [] after fault h p is e = absurd (omega arith)
-next-fault (c ∷ rest) after fault h p is e =
+next_fault [] after fault h p is e = absurd (omega arith)
+next_fault (c ∷ rest) after fault h p is e =
     sym (percent-first c rest p ∙ ap (begun rest) (ap made_at (sym is) ∙ sym e))
 
 drop-more : (place : ℕ) (c : ℕ) (rest : List ℕ) → drop (place + 2) (c ∷ rest) ≡ drop (place + 1) rest
@@ -61,10 +61,10 @@ drop-more place c rest =
     let e : place + 2 ≡ suc (place + 1) = omega arith in
     ap (λ (n : ℕ). drop n (c ∷ rest)) e
 
-pub next-made : (text after back : List ℕ) (place : ℕ) (m : Made) → 0 < length text → get_or text 0 0 ≡ percent → after ≡ drop 1 text
+pub next_made : (text after back : List ℕ) (place : ℕ) (m : Made) → 0 < length text → get_or text 0 0 ≡ percent → after ≡ drop 1 text
     → Ok m ≡ made_at after → place ≡ letter_place after → back ≡ drop (place + 2) text → Ok (Begun m, back) ≡ next_piece text
-next-made [] after back place m h p is e at left = absurd (omega arith)
-next-made (c ∷ rest) after back place m h p is e at left =
+next_made [] after back place m h p is e at left = absurd (omega arith)
+next_made (c ∷ rest) after back place m h p is e at left =
     let place_is : place ≡ letter_place rest = at ∙ ap letter_place is in
     let back_is : back ≡ drop (letter_place rest + 1) rest = left ∙ drop-more place c rest ∙ ap (λ (n : ℕ). drop (n + 1) rest) place_is in
     ap (λ (xs : List ℕ). let r : Result (Piece × List ℕ) FormatFault = Ok (Begun m, xs) in r) back_is
@@ -75,10 +75,10 @@ unfolding next_piece
 text-by c rest true e no_text = absurd (no_text (rw e refl))
 text-by c rest false e no_text = rw e refl
 
-pub next-text : (text front back : List ℕ) (place : ℕ) → 0 < length text → place ≡ text_len text → (place ≡ 0 → ⊥) → front ≡ take place text
+pub next_text : (text front back : List ℕ) (place : ℕ) → 0 < length text → place ≡ text_len text → (place ≡ 0 → ⊥) → front ≡ take place text
     → back ≡ drop place text → Ok (Text front, back) ≡ next_piece text
-next-text [] front back place h at some f g = absurd (omega arith)
-next-text (c ∷ rest) front back place h at some f g =
+next_text [] front back place h at some f g = absurd (omega arith)
+next_text (c ∷ rest) front back place h at some f g =
     let no_text : text_len (c ∷ rest) ≡ 0 → ⊥ = λ e. some (at ∙ e) in
     let same : Ok (Text front, back) ≡ Ok (text_piece (c ∷ rest)) = rw (f, g, at) refl in
     same ∙ sym (text-by c rest (is_percent c) refl no_text)
@@ -103,8 +103,8 @@ pub text-end : (text : List ℕ) → text_len text < length text → get_or text
 text-end [] h = absurd (omega arith)
 text-end (c ∷ rest) h = end-by c rest (is_percent c) refl h (text-end rest)
 
-pub cut-before : (text : List ℕ) (place : ℕ) → place ≡ text_len text → IsCharBoundary text place
-cut-before text place at = (
+pub cut_before : (text : List ℕ) (place : ℕ) → place ≡ text_len text → IsCharBoundary text place
+cut_before text place at = (
   omega (arith, at, prefix_len-le-length (λ (c : ℕ). not (is_percent c)) text),
   λ h high.
       let within : text_len text < length text = omega (arith, at) in

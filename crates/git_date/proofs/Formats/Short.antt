@@ -24,14 +24,14 @@ use Rattle.git_date.proofs.Formats.Pieces.{percent-first}
 use Rattle.git_date.proofs.Formats.Walks.{Left, left-next, grown-more}
 
 -- numbers that are filled with zeros
-pub two-filled : (n : ℕ) → n < 100 → filled true 2 (decimal n) ≡ two_digits n
-two-filled n h =
+pub two_filled : (n : ℕ) → n < 100 → filled true 2 (decimal n) ≡ two_digits n
+two_filled n h =
     let e : int_le (pos 0) (pos n) ≡ true = grind (arith, ints) in
     let is : number 2 (pos n) ≡ filled true 2 (decimal n) = rw e refl in
     sym is ∙ number-two n h
 
-pub four-filled : (n : ℕ) → 1000 ≤ n → n ≤ 9999 → filled true 4 (decimal n) ≡ four_digits n
-four-filled n low high =
+pub four_filled : (n : ℕ) → 1000 ≤ n → n ≤ 9999 → filled true 4 (decimal n) ≡ four_digits n
+four_filled n low high =
     let e : int_le (pos 0) (pos n) ≡ true = grind (arith, ints) in
     let is : number 4 (pos n) ≡ filled true 4 (decimal n) = rw e refl in
     sym is ∙ number-four n low high
@@ -145,6 +145,6 @@ left-passed shown text rest further start old new left h p =
     (λ done e. grown-more shown start old new done p.piece (piece_text shown p.piece) refl e p.said)
 
 -- `%Y`
-pub year-shown : (shown : Shown) (letter : ℕ) → letter ≡ 89 → letter_text shown letter ≡ Some (filled true 4 (decimal shown.clock.date.year))
+pub year_shown : (shown : Shown) (letter : ℕ) → letter ≡ 89 → letter_text shown letter ≡ Some (filled true 4 (decimal shown.clock.date.year))
 unfolding digits_number
-year-shown shown letter e = ap (letter_text shown) e
+year_shown shown letter e = ap (letter_text shown) e

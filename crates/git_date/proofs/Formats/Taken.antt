@@ -25,8 +25,8 @@ takes-more shown old mid new done piece text is h k =
     subst (Takes old new) (ap (λ (more : List ℕ). texts shown done ++ more) is ∙ sym (texts-more shown done piece))
     (Appends-append old.bytes mid.bytes new.bytes (texts shown done) text h k)
 
-cut-after : (old mid new : StreamState) (xs ys : List ℕ) → Takes old mid xs → TakesProperPrefix mid new ys → TakesProperPrefix old new (xs ++ ys)
-cut-after old mid new xs ys h k =
+cut_after : (old mid new : StreamState) (xs ys : List ℕ) → Takes old mid xs → TakesProperPrefix mid new ys → TakesProperPrefix old new (xs ++ ys)
+cut_after old mid new xs ys h k =
     let within = k.1 in (
       length xs + k.0,
       omega (arith, length-append xs ys),
@@ -49,7 +49,7 @@ cut-within text rest further shown old mid new piece part left h e shorter whole
     left-next text rest further (λ done. Takes old mid (texts shown done)) Cut piece left h e shorter
     (λ done p.
     subst (TakesProperPrefix old new) (ap (λ (more : List ℕ). texts shown done ++ more) is ∙ sym (texts-more shown done piece))
-    (cut-after old mid new (texts shown done) part p cut)) in
+    (cut_after old mid new (texts shown done) part p cut)) in
     let more = left-more text further Cut next whole in
     subst Cut more.1
     (subst (TakesProperPrefix old new) (sym (texts-append shown next.done more.0))

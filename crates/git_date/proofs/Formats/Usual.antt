@@ -12,25 +12,25 @@ use Rattle.git_date.specs.Formats.Pieces.{Text, is_percent, percent}
 use Rattle.git_date.specs.Formats.Short.{letter_text, Passes}
 use Rattle.git_date.specs.Formats.Shown.{Shown}
 use Rattle.git_date.specs.Tokens.Numbers.{number as digits_number}
-use Rattle.git_date.proofs.Formats.Pieces.{next-text}
-use Rattle.git_date.proofs.Formats.Short.{two-filled, four-filled}
+use Rattle.git_date.proofs.Formats.Pieces.{next_text}
+use Rattle.git_date.proofs.Formats.Short.{two_filled, four_filled}
 
 -- one byte before a percent sign
 mark-first : (shown : Shown) (mark : ℕ) (rest old : List ℕ) → is_percent mark ≡ false
     → Passes shown (mark ∷ percent ∷ rest) (percent ∷ rest) old (old ++ mark ∷ [])
 mark-first shown mark rest old e = record {
   piece = Text (mark ∷ []);
-  first = next-text (mark ∷ percent ∷ rest) (mark ∷ []) (percent ∷ rest) 1 (omega arith) (rw e refl) (λ e. absurd (omega (arith, e))) refl refl;
+  first = next_text (mark ∷ percent ∷ rest) (mark ∷ []) (percent ∷ rest) 1 (omega arith) (rw e refl) (λ e. absurd (omega (arith, e))) refl refl;
   shorter = omega arith;
   said = refl;
 }
 
 -- one byte before a percent sign
-pub mark-goes : (shown : Shown) (text bytes mark rest old new : List ℕ) → bytes ≡ text → 2 ≤ length bytes → (get_or bytes 0 0 ≡ percent → ⊥)
+pub mark_goes : (shown : Shown) (text bytes mark rest old new : List ℕ) → bytes ≡ text → 2 ≤ length bytes → (get_or bytes 0 0 ≡ percent → ⊥)
     → get_or bytes 1 0 ≡ percent → mark ≡ take 1 text → rest ≡ drop 1 text → new ≡ old ++ mark → Passes shown text rest old new
-mark-goes shown text [] mark rest old new same len bare at front back is = absurd (omega (arith, len))
-mark-goes shown text (a ∷ []) mark rest old new same len bare at front back is = absurd (omega (arith, len))
-mark-goes shown text (a ∷ b ∷ more) mark rest old new same len bare at front back is =
+mark_goes shown text [] mark rest old new same len bare at front back is = absurd (omega (arith, len))
+mark_goes shown text (a ∷ []) mark rest old new same len bare at front back is = absurd (omega (arith, len))
+mark_goes shown text (a ∷ b ∷ more) mark rest old new same len bare at front back is =
     let back_is : rest ≡ percent ∷ more = back ∙ ap (λ (xs : List ℕ). drop 1 xs) (sym same) ∙ ap (λ (c : ℕ). c ∷ more) at in
     let text_is : text ≡ a ∷ percent ∷ more = sym same ∙ ap (λ (c : ℕ). a ∷ c ∷ more) at in
     let new_is : new ≡ old ++ a ∷ [] = is ∙ ap (λ (xs : List ℕ). old ++ xs) (front ∙ ap (λ (xs : List ℕ). take 1 xs) (sym same)) in
@@ -62,34 +62,34 @@ abbrev Told : Type 0
 Told = Option (List ℕ)
 
 -- `%a`
-pub day-shown : (shown : Shown) (letter : ℕ) → letter ≡ 97 → letter_text shown letter ≡ Some (day_name shown.clock.weekday)
+pub day_shown : (shown : Shown) (letter : ℕ) → letter ≡ 97 → letter_text shown letter ≡ Some (day_name shown.clock.weekday)
 unfolding digits_number
-day-shown shown letter e = ap (letter_text shown) e ∙ ap (λ (xs : List ℕ). let r : Told = Some xs in r) (bare-name (day_name shown.clock.weekday))
+day_shown shown letter e = ap (letter_text shown) e ∙ ap (λ (xs : List ℕ). let r : Told = Some xs in r) (bare-name (day_name shown.clock.weekday))
 
 -- `%b`
-pub month-shown : (shown : Shown) (letter : ℕ) → letter ≡ 98 → letter_text shown letter ≡ Some (month_name shown.clock.date.month)
+pub month_shown : (shown : Shown) (letter : ℕ) → letter ≡ 98 → letter_text shown letter ≡ Some (month_name shown.clock.date.month)
 unfolding digits_number
-month-shown shown letter e =
+month_shown shown letter e =
     ap (letter_text shown) e ∙ ap (λ (xs : List ℕ). let r : Told = Some xs in r) (bare-name (month_name shown.clock.date.month))
 
 -- `%T`
-pub clock-shown : (shown : Shown) (letter : ℕ) → letter ≡ 84 → shown.clock.clock.hour < 100 → shown.clock.clock.minute < 100
+pub clock_is_shown : (shown : Shown) (letter : ℕ) → letter ≡ 84 → shown.clock.clock.hour < 100 → shown.clock.clock.minute < 100
     → shown.clock.clock.second < 100 → letter_text shown letter ≡ Some (clock_text shown.clock.clock)
 unfolding digits_number
-clock-shown shown letter e hour minute second =
+clock_is_shown shown letter e hour minute second =
     let t = shown.clock.clock in
     ap (letter_text shown) e
     ∙ ap (λ (xs : List ℕ). let r : Told = Some xs in r) (joined colon (filled true 2 (decimal t.hour)) (filled true 2 (decimal t.minute))
-    (filled true 2 (decimal t.second)) (two_digits t.hour) (two_digits t.minute) (two_digits t.second) (two-filled t.hour hour)
-    (two-filled t.minute minute) (two-filled t.second second))
+    (filled true 2 (decimal t.second)) (two_digits t.hour) (two_digits t.minute) (two_digits t.second) (two_filled t.hour hour)
+    (two_filled t.minute minute) (two_filled t.second second))
 
 -- `%F`
-pub date-shown : (shown : Shown) (letter : ℕ) → letter ≡ 70 → 1000 ≤ shown.clock.date.year → shown.clock.date.year ≤ 9999
+pub date_shown : (shown : Shown) (letter : ℕ) → letter ≡ 70 → 1000 ≤ shown.clock.date.year → shown.clock.date.year ≤ 9999
     → shown.clock.date.month < 100 → shown.clock.date.day < 100 → letter_text shown letter ≡ Some (date_text shown.clock.date)
 unfolding digits_number
-date-shown shown letter e low high month day =
+date_shown shown letter e low high month day =
     let d = shown.clock.date in
     ap (letter_text shown) e
     ∙ ap (λ (xs : List ℕ). let r : Told = Some xs in r) (joined minus (filled true 4 (decimal d.year)) (filled true 2 (decimal d.month))
-    (filled true 2 (decimal d.day)) (four_digits d.year) (two_digits d.month) (two_digits d.day) (four-filled d.year low high)
-    (two-filled d.month month) (two-filled d.day day))
+    (filled true 2 (decimal d.day)) (four_digits d.year) (two_digits d.month) (two_digits d.day) (four_filled d.year low high)
+    (two_filled d.month month) (two_filled d.day day))

@@ -167,13 +167,13 @@ texts-more shown done piece =
     texts-append shown done (piece ∷ []) ∙ ap (λ (text : List ℕ). texts shown done ++ text) (append-nil (piece_text shown piece))
 
 -- a format as it is checked
-pub checked-fault : (text : List ℕ) (fault : FormatFault) → Some fault ≡ format_fault text → Err fault ≡ checked text
+pub checked_fault : (text : List ℕ) (fault : FormatFault) → Some fault ≡ format_fault text → Err fault ≡ checked text
 unfolding checked
-checked-fault text fault e = ap (λ (f : Option FormatFault). checked_by text f) e
+checked_fault text fault e = ap (λ (f : Option FormatFault). checked_by text f) e
 
-pub checked-whole : (text : List ℕ) → None ≡ format_fault text → Ok text ≡ checked text
+pub checked_whole : (text : List ℕ) → None ≡ format_fault text → Ok text ≡ checked text
 unfolding checked
-checked-whole text e = ap (λ (f : Option FormatFault). checked_by text f) e
+checked_whole text e = ap (λ (f : Option FormatFault). checked_by text f) e
 
 whole-checked-by : (text : List ℕ) (r : Pieces) → is_ok r ≡ true → checked_by text (option_map (placed (length text)) (result_err r)) ≡ Ok text
 whole-checked-by text (Ok ps) h = refl

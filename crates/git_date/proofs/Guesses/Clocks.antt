@@ -13,16 +13,16 @@ use Rattle.git_date.specs.Rules.Clocks.{first_of_year_1900}
 use Rattle.git_date.specs.Rules.Dates.{first_of}
 use Rattle.gix_date.specs.Fields.Layout.{LocalTime}
 
-pub shown-within : (s : ℤ) → is_shown s ≡ true → IsBetween first_of_year_1900 last_of_year_9999 s
-shown-within s h = within first_of_year_1900 last_of_year_9999 s h
+pub shown_within : (s : ℤ) → is_shown s ≡ true → IsBetween first_of_year_1900 last_of_year_9999 s
+shown_within s h = within first_of_year_1900 last_of_year_9999 s h
 
-pub none-shown : (s : ℤ) → is_shown s ≡ false → None ≡ shown_at s
+pub none_shown : (s : ℤ) → is_shown s ≡ false → None ≡ shown_at s
 unfolding shown_at
-none-shown s e = none-where (is_shown s) _ e
+none_shown s e = none-where (is_shown s) _ e
 
-pub a-shown : (s : ℤ) (c : LocalTime) → is_shown s ≡ true → c ≡ (clock_of (utc_time s)) → Some c ≡ shown_at s
+pub a_shown : (s : ℤ) (c : LocalTime) → is_shown s ≡ true → c ≡ (clock_of (utc_time s)) → Some c ≡ shown_at s
 unfolding shown_at
-a-shown s c h e = some-where (is_shown s) c _ h e
+a_shown s c h e = some-where (is_shown s) c _ h e
 
 pub year-within : (y m : ℕ) → is_shown_month y m ≡ true → y ≤ 9999
 year-within y m h = grind (arith, nat_tests, h)

@@ -102,5 +102,5 @@ expiry-by-in : (moment : Zoned) (text : List ℕ) (fixed : Option Expiry) → Ha
 expiry-by-in moment text (Some said) fixed = fixed
 expiry-by-in moment text None fixed = dated-in text (approximate moment text) (approximate-places moment text)
 
-pub expiry-places : (moment : Zoned) (text : List ℕ) → HasExpiryPlacesIn text (expiry_by moment text (fixed_expiry (before_nul text)))
-expiry-places moment text = expiry-by-in moment text (fixed_expiry (before_nul text)) (fixed-in text (before_nul text))
+pub expiry_places : (moment : Zoned) (text : List ℕ) → HasExpiryPlacesIn text (expiry_by moment text (fixed_expiry (before_nul text)))
+expiry_places moment text = expiry-by-in moment text (fixed_expiry (before_nul text)) (fixed-in text (before_nul text))

@@ -16,35 +16,35 @@ use Rattle.git_date.proofs.Rules.HeldClocks.{within}
 pub dated : (s : ℤ) → is_dated s ≡ true → IsBetween (pos 0) last_of_year_9999 s
 dated s h = within (pos 0) last_of_year_9999 s h
 
-pub zone-dated : (s : ℤ) → has_zone_clock s ≡ true → IsBetween (pos 0) last_second s
-zone-dated s h = within (pos 0) last_second s h
+pub zone_dated : (s : ℤ) → has_zone_clock s ≡ true → IsBetween (pos 0) last_second s
+zone_dated s h = within (pos 0) last_second s h
 
-pub near-zone : (s o : ℤ) → IsBetween (pos 0) last_second s → IsBetween (neg_ℤ (pos 93_599)) (pos 93_599) o
+pub near_zone : (s o : ℤ) → IsBetween (pos 0) last_second s → IsBetween (neg_ℤ (pos 93_599)) (pos 93_599) o
     → IsShowable (record { seconds = s; offset = o })
-near-zone s o dated offset =
+near_zone s o dated offset =
     record { in_years = (omega (arith, signed_arith), omega (arith, signed_arith)); offset = omega (arith, signed_arith, one_part o) }
 
-pub and-last : (a b c r : Bool) → a ≡ true → b ≡ true → r ≡ c → r ≡ (a && b && c)
-and-last true true c r p q e = e
-and-last true false c r p q e = cc
-and-last false b c r p q e = cc
+pub and_last : (a b c r : Bool) → a ≡ true → b ≡ true → r ≡ c → r ≡ (a && b && c)
+and_last true true c r p q e = e
+and_last true false c r p q e = cc
+and_last false b c r p q e = cc
 
 -- a clock is that of its definition
-pub an-own-clock : (t : Time) (l : LocalTime) → has_own_clock t ≡ true → l ≡ clock_of t → Some l ≡ own_clock t
+pub an_own_clock : (t : Time) (l : LocalTime) → has_own_clock t ≡ true → l ≡ clock_of t → Some l ≡ own_clock t
 unfolding own_clock
-an-own-clock t l h e = some-where (has_own_clock t) l _ h e
+an_own_clock t l h e = some-where (has_own_clock t) l _ h e
 
-pub no-own-clock : (t : Time) → has_own_clock t ≡ false → None ≡ own_clock t
+pub no_own_clock : (t : Time) → has_own_clock t ≡ false → None ≡ own_clock t
 unfolding own_clock
-no-own-clock t h = none-where (has_own_clock t) _ h
+no_own_clock t h = none-where (has_own_clock t) _ h
 
-pub a-zone-clock : (zone : TimeZone) (s : ℤ) (l : LocalTime) → has_zone_clock s ≡ true → l ≡ with_known_offset (clock_of (time_at zone s)) → Some l ≡ zone_clock zone s
+pub a_zone_clock : (zone : TimeZone) (s : ℤ) (l : LocalTime) → has_zone_clock s ≡ true → l ≡ with_known_offset (clock_of (time_at zone s)) → Some l ≡ zone_clock zone s
 unfolding zone_clock
-a-zone-clock zone s l h e = some-where (has_zone_clock s) l _ h e
+a_zone_clock zone s l h e = some-where (has_zone_clock s) l _ h e
 
-pub no-zone-clock : (zone : TimeZone) (s : ℤ) → has_zone_clock s ≡ false → None ≡ zone_clock zone s
+pub no_zone_clock : (zone : TimeZone) (s : ℤ) → has_zone_clock s ≡ false → None ≡ zone_clock zone s
 unfolding zone_clock
-no-zone-clock zone s h = none-where (has_zone_clock s) _ h
+no_zone_clock zone s h = none-where (has_zone_clock s) _ h
 
 -- a clock with the offset that Git knows
 pub known : (u : LocalTime) (o : ℤ) (l : LocalTime) → u ≡ l → o ≡ known_offset u → ◌≡◌ {A = LocalTime} (record u { offset = o }) (with_known_offset l)
@@ -53,6 +53,6 @@ known u o l e h = ap (λ (n : ℤ). let r : LocalTime = record u { offset = n } 
 abbrev timed : ℤ → ℤ → Time
 timed s o = record { seconds = s; offset = o }
 
-pub timed-at : (zone : TimeZone) (s o : ℤ) (t : Time) → t ≡ record { seconds = s; offset = o } → o ≡ offset_at zone (nanos_of_seconds s)
+pub timed_at : (zone : TimeZone) (s o : ℤ) (t : Time) → t ≡ record { seconds = s; offset = o } → o ≡ offset_at zone (nanos_of_seconds s)
     → t ≡ time_at zone s
-timed-at zone s o t e h = e ∙ ap (λ (n : ℤ). timed s n) h
+timed_at zone s o t e h = e ∙ ap (λ (n : ℤ). timed s n) h

@@ -11,7 +11,7 @@ use Rattle.jiff_core.specs.Calendar.{IsBetween, day_count, days_of_years, days_o
 use Rattle.jiff_core.specs.Date.{epoch_day}
 use Rattle.jiff_core.specs.declared.civil.date.Date.{Date}
 use Rattle.gix_date.proofs.Fields.Instants.{z_holds}
-use Rattle.gix_date.proofs.Printing.LocalClocks.{Shows, clock-shown, local-is, four-digits-from, shown-by}
+use Rattle.gix_date.proofs.Printing.LocalClocks.{Shows, clock_is_shown, local-is, four-digits-from, shown-by}
 use Rattle.gix_date.proofs.Printing.ReadBack.{local-instant}
 use Rattle.gix_date.specs.Families.Epoch.{utc_time}
 use Rattle.gix_date.specs.Families.Patterns.{midnight}
@@ -136,7 +136,7 @@ module _ (x : ℤ) (h : IsClockBack x) (z : PlainZoned) (shows : Shows z (utc_ti
   filled today = rw shown-month (ap (λ (s : ℤ). Some s) whole)
 
   filled-of : (today : LocalTime) → filled_seconds today (all_fields (shown_of x)) ≡ Some x
-  filled-of today = subst (λ (l : LocalTime). filled_seconds today (all_fields l) ≡ Some x) (clock-shown z (utc_time x) shows) (filled today)
+  filled-of today = subst (λ (l : LocalTime). filled_seconds today (all_fields l) ≡ Some x) (clock_is_shown z (utc_time x) shows) (filled today)
 
 -- what a clock shows at these seconds: a month from 1900 on, and a date and a clock that come to them
 pub record IsClockOf (x : ℤ) (c : LocalTime) : Type 0 where
@@ -146,7 +146,7 @@ pub record IsClockOf (x : ℤ) (c : LocalTime) : Type 0 where
 pub clock-is : (x : ℤ) → IsClockBack x → IsClockOf x (shown_of x)
 clock-is x h =
     let found = shown-by (utc_time x) ((omega (arith, signed_arith), omega (arith, signed_arith)), (omega (arith, signed_arith, h.0), h.1)) in
-    subst (λ (l : LocalTime). IsClockOf x l) (clock-shown found.0 (utc_time x) found.1)
+    subst (λ (l : LocalTime). IsClockOf x l) (clock_is_shown found.0 (utc_time x) found.1)
     (record { month = shown-month x h found.0 found.1; seconds = whole x h found.0 found.1 })
 
 -- all that a clock shows comes to its seconds, whatever today is
@@ -184,4 +184,4 @@ pub known-month : (x : ℤ) → pos 0 ≤ℤ x → x <ℤ pos 4_102_444_800 → 
 known-month x low high =
     let h : IsClockBack x = (omega (arith, signed_arith, low), omega (arith, signed_arith, high)) in
     let found = shown-by (utc_time x) ((omega (arith, signed_arith), omega (arith, signed_arith)), (omega (arith, signed_arith, h.0), h.1)) in
-    subst (λ (l : LocalTime). is_month l.date.year l.date.month ≡ true) (clock-shown found.0 (utc_time x) found.1) (git-month x h found.0 found.1 low high)
+    subst (λ (l : LocalTime). is_month l.date.year l.date.month ≡ true) (clock_is_shown found.0 (utc_time x) found.1) (git-month x h found.0 found.1 low high)

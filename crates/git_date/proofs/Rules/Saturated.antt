@@ -12,6 +12,6 @@ after : (digits : List ℕ) (n m : ℕ) → m ≡ min n max_number → fold digi
 after [] n m e = e
 after (byte ∷ digits) n m e = after digits (digit_more n byte) (digit_at_most m byte) (more-at-most n m byte e)
 
-pub saturated-is : (digits : List ℕ) → saturated digits ≡ number digits
+pub saturated_is : (digits : List ℕ) → saturated digits ≡ number digits
 unfolding number saturated
-saturated-is digits = after digits 0 0 refl
+saturated_is digits = after digits 0 0 refl

@@ -31,16 +31,16 @@ abbrev pub first_len : Bool → ℕ → ℕ
 first_len is_nul n = cond (not is_nul) (1 + n) 0
 
 -- a text holds a NUL, or none
-pub holds-none : (text : List ℕ) → list_any (λ byte. byte == nul) text ≡ false → string_len text ≡ length text
-holds-none [] h = refl
-holds-none (c ∷ text) h =
+pub holds_none : (text : List ℕ) → list_any (λ byte. byte == nul) text ≡ false → string_len text ≡ length text
+holds_none [] h = refl
+holds_none (c ∷ text) h =
     let both = or_parts (c == nul) (list_any (λ byte. byte == nul) text) h in
-    let rest : 1 + string_len text ≡ length (c ∷ text) = let all = holds-none text both.1 in omega (arith, all) in
+    let rest : 1 + string_len text ≡ length (c ∷ text) = let all = holds_none text both.1 in omega (arith, all) in
     ap (λ (b : Bool). first_len b (string_len text)) both.0 ∙ rest
 
-pub holds-one : (text : List ℕ) → list_any (λ byte. byte == nul) text ≡ true → string_len text < length text
-holds-one [] h = absurd cc
-holds-one (c ∷ text) h = by (c == nul) h (λ any. holds-one text any)
+pub holds_one : (text : List ℕ) → list_any (λ byte. byte == nul) text ≡ true → string_len text < length text
+holds_one [] h = absurd cc
+holds_one (c ∷ text) h = by (c == nul) h (λ any. holds_one text any)
   where
     by : (b : Bool) → (b || list_any (λ byte. byte == nul) text) ≡ true → (list_any (λ byte. byte == nul) text ≡ true → string_len text < length text)
         → first_len b (string_len text) < length (c ∷ text)
@@ -110,21 +110,21 @@ no-nul (c ∷ text) h =
     ap (λ (b : Bool). first_len b (string_len text)) both.0 ∙ rest
 
 -- the text before a NUL and the place of this, by how long the string is
-pub no-place : (text : List ℕ) → string_len text ≡ length text → nul_place text ≡ None
+pub no_place : (text : List ℕ) → string_len text ≡ length text → nul_place text ≡ None
 unfolding nul_place
-no-place text e =
+no_place text e =
     let no : nat_lt (string_len text) (length text) ≡ false = grind (arith, nat_tests, e) in
     rw no refl
 
-pub some-place : (text : List ℕ) → string_len text < length text → nul_place text ≡ Some (string_len text)
+pub some_place_is : (text : List ℕ) → string_len text < length text → nul_place text ≡ Some (string_len text)
 unfolding nul_place
-some-place text h =
+some_place_is text h =
     let yes : nat_lt (string_len text) (length text) ≡ true = grind (arith, nat_tests, h) in
     rw yes refl
 
-pub all-before : (text : List ℕ) → string_len text ≡ length text → before_nul text ≡ text
+pub all_stand_before : (text : List ℕ) → string_len text ≡ length text → before_nul text ≡ text
 unfolding before_nul
-all-before text e = take_all (string_len text) text (omega (arith, e))
+all_stand_before text e = take_all (string_len text) text (omega (arith, e))
 
 -- what begins nowhere changes nothing
 or-none : (ignored : Option ℕ) → option_or ignored None ≡ ignored
@@ -143,12 +143,12 @@ all-answered (Err e) = refl
 pub whole-said : (now : Now) (text : List ℕ) → string_len text ≡ length text → said_by now text ≡ string_said now text
 unfolding said_by
 whole-said now text e =
-    (λ i. said_up_to (no-place text e i) (string_said now (all-before text e i))) ∙ all-said (string_said now text)
+    (λ i. said_up_to (no_place text e i) (string_said now (all_stand_before text e i))) ∙ all-said (string_said now text)
 
 pub whole-guess : (zone : States) (now : Now) (text : List ℕ) → string_len text ≡ length text → guess zone now text ≡ string_guess zone now text
 unfolding guess
 whole-guess zone now text e =
-    (λ i. answer_up_to (no-place text e i) (string_guess zone now (all-before text e i))) ∙ all-answered (string_guess zone now text)
+    (λ i. answer_up_to (no_place text e i) (string_guess zone now (all_stand_before text e i))) ∙ all-answered (string_guess zone now text)
 
 -- a place before the NUL is one of the whole text
 pub before-place : (text : List ℕ) (place : ℕ) → IsPlaceIn (take (string_len text) text) place → IsPlaceIn text place

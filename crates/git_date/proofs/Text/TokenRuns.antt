@@ -1,10 +1,15 @@
 -- What stands first among the tokens of a text.
 use Rattle.std.proofs.Common.{◌≡◌, ◌<◌, ◌≤◌, ℕ, ◌+◌, Bool, true, false, cond, List, [], ◌∷◌, length, take, drop, get_or, refl, ap, sym, ◌∙◌, arith}
+use Rattle.std.proofs.Math.ListN.{length-append}
 use Rattle.std.proofs.Math.Numerals.{one-add}
 use Rattle.std.proofs.lemmas.Bool.Decides.{nat_tests}
+use Rattle.std.proofs.lemmas.List.Sums.{prefix_len-le-length}
 use Rattle.std.specs.List.{prefix_len}
 use Rattle.std.specs.Char.{is_ascii_alphabetic, is_ascii_digit}
 use Rattle.git_date.specs.Tokens.Tokens.{Token, Letters, Digits, Mark, letter_before, digit_before, tokens, texts}
+
+-- how long runs and their texts are
+pub ruleset run_lengths = (length-append, prefix_len-le-length)
 
 -- the texts of the tokens are the text
 letter-text : (c : ℕ) (ts : List Token) → texts (letter_before c ts) ≡ c ∷ texts ts
@@ -103,22 +108,22 @@ pub digits-whole : (c : ℕ) (text : List ℕ) (n : ℕ) → is_ascii_digit c �
 digits-whole c text n e is = whole is_ascii_digit Digits c text (prefix_len is_ascii_digit text) n (is_ascii_digit c) e is (digits-run c text e)
 
 -- the same of a text that is not empty, as the code has it
-pub letters-front : (text : List ℕ) (n : ℕ) (run rest : List ℕ) → 1 ≤ length text → is_ascii_alphabetic (get_or text 0 0) ≡ true → n ≡ prefix_len is_ascii_alphabetic text
+pub letters_front : (text : List ℕ) (n : ℕ) (run rest : List ℕ) → 1 ≤ length text → is_ascii_alphabetic (get_or text 0 0) ≡ true → n ≡ prefix_len is_ascii_alphabetic text
     → run ≡ take n text → rest ≡ drop n text → tokens text ≡ Letters run ∷ tokens rest
-letters-front [] n run rest h e is f g = absurd (omega arith)
-letters-front (c ∷ text) n run rest h e is f g = rw (f, g) (letters-whole c text n e is)
+letters_front [] n run rest h e is f g = absurd (omega arith)
+letters_front (c ∷ text) n run rest h e is f g = rw (f, g) (letters-whole c text n e is)
 
-pub digits-front : (text : List ℕ) (n : ℕ) (run rest : List ℕ) → 1 ≤ length text → is_ascii_digit (get_or text 0 0) ≡ true → n ≡ prefix_len is_ascii_digit text
+pub digits_front : (text : List ℕ) (n : ℕ) (run rest : List ℕ) → 1 ≤ length text → is_ascii_digit (get_or text 0 0) ≡ true → n ≡ prefix_len is_ascii_digit text
     → run ≡ take n text → rest ≡ drop n text → tokens text ≡ Digits run ∷ tokens rest
-digits-front [] n run rest h e is f g = absurd (omega arith)
-digits-front (c ∷ text) n run rest h e is f g = rw (f, g) (digits-whole c text n e is)
+digits_front [] n run rest h e is f g = absurd (omega arith)
+digits_front (c ∷ text) n run rest h e is f g = rw (f, g) (digits-whole c text n e is)
 
-pub mark-front : (text rest : List ℕ) → 1 ≤ length text → is_ascii_alphabetic (get_or text 0 0) ≡ false → is_ascii_digit (get_or text 0 0) ≡ false
+pub mark_front : (text rest : List ℕ) → 1 ≤ length text → is_ascii_alphabetic (get_or text 0 0) ≡ false → is_ascii_digit (get_or text 0 0) ≡ false
     → rest ≡ drop 1 text → tokens text ≡ Mark (get_or text 0 0) ∷ tokens rest
-mark-front [] rest h e f g = absurd (omega arith)
-mark-front (c ∷ text) rest h e f g = rw g (mark-first c text e f)
+mark_front [] rest h e f g = absurd (omega arith)
+mark_front (c ∷ text) rest h e f g = rw g (mark-first c text e f)
 
-pub nothing-first : (text : List ℕ) → length text < 1 → tokens text ≡ []
+pub nothing_first : (text : List ℕ) → length text < 1 → tokens text ≡ []
 unfolding tokens
-nothing-first [] h = refl
-nothing-first (c ∷ text) h = absurd (omega arith)
+nothing_first [] h = refl
+nothing_first (c ∷ text) h = absurd (omega arith)

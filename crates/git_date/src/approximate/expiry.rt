@@ -50,6 +50,7 @@ fn expiry_of(date: Result<Approximate, DateError>) -> Result<Expiry, DateError>
 /// text is a date, read as by [`approxidate`](crate::approxidate), with its refusals; [`DateError::Unreadable`] if nothing of it
 /// was understood. A NUL ends the text: `never\0x` is [`Expiry::Never`], which does not tell of it. A place that the answer has
 /// is one where a character of the text begins. Takes no memory.
+#[tactic(auto, using(crate::proofs::Guesses::Places::expiry_places))]
 pub fn expiry_date(text: &[u8], now: Zoned<'_>) -> Result<Expiry, DateError>
     ensures answer { ExpiryOutcome now.entry text.now result }
     ensures places { HasExpiryPlacesIn text.now result }

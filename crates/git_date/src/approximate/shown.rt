@@ -29,6 +29,7 @@ fn is_shown(seconds: i64) -> bool
 }
 
 /// What a clock shows that has counted so many seconds since 1970-01-01 00:00:00. `None` before 1900 and after 9999.
+#[tactic(auto, using(gix_date::proofs::Text::Ints::held, crate::proofs::Guesses::Clocks::none_shown, crate::proofs::Rules::HeldClocks::utc_showable, crate::proofs::Guesses::Clocks::shown_within, crate::proofs::Guesses::Clocks::a_shown))]
 pub(crate) fn shown_at(seconds: i64) -> Option<Clock>
     ensures { result ≡ shown_at seconds }
 {

@@ -97,6 +97,7 @@ pub(crate) fn first_second(year: u16, month: u8) -> Option<i64>
 }
 
 /// The first second of a month of the years that Git knows.
+#[tactic(auto, using(crate::proofs::Rules::Months::a_month, crate::proofs::Rules::Months::no_month))]
 fn month_start(year: u16, month: u8) -> Option<i64>
     ensures value { result ≡ month_start year month }
     ensures small { IfSome result IsSmall }

@@ -24,6 +24,7 @@ impl<'a> DateFormat<'a> {
     /// `_ - 0 ^ #` and a width up to 255. All other text is shown as it is, and may be empty.
     ///
     /// The first fault is answered with the place of its percent sign ([`FormatFault`]). Takes no memory.
+    #[tactic(auto, using(crate::proofs::Formats::Walks::checked_fault, crate::proofs::Formats::Walks::checked_whole))]
     pub fn new(text: &'a str) -> Result<DateFormat<'a>, FormatFault>
         ensures { result_map_both format_bytes (λ fault. fault) result ≡ checked text.now }
     {

@@ -118,6 +118,7 @@ fn after_first(text: &str) -> &[u8]
 }
 
 /// A piece that begins with a percent sign, and what is left.
+#[tactic(auto, using(crate::proofs::Formats::Pieces::next_fault, crate::proofs::Formats::Pieces::cut_after, crate::proofs::Formats::Pieces::next_made))]
 fn begun(text: &str) -> Result<(Piece<'_>, &str), FormatFault>
     requires there { 0 < length text.now }
     requires percent { get_or text.now 0 0 ≡ percent }
@@ -134,6 +135,7 @@ fn begun(text: &str) -> Result<(Piece<'_>, &str), FormatFault>
 }
 
 /// The first piece of a format that is not empty, and what is left.
+#[tactic(auto, using(crate::proofs::Formats::Pieces::cut_before, crate::proofs::Formats::Pieces::next_text))]
 #[inline(always)]
 pub(crate) fn next_piece(text: &str) -> Result<(Piece<'_>, &str), FormatFault>
     requires { 0 < length text.now }

@@ -56,6 +56,7 @@ fn counted(seconds: i64, offset: i32, shown: i32) -> i64
 }
 
 /// What the zone's clock shows at an instant.
+#[tactic(auto, using(gix_date::proofs::Text::Ints::held, crate::proofs::Formats::Shown::same_shown, crate::proofs::Formats::Shown::abbreviation_is))]
 fn zone_shown_by(clock: Clock, seconds: i64, zone: TimeZone<'_>) -> Shown
     requires from { pos 0 ≤ℤ seconds }
     requires to { seconds ≤ℤ last_second }
@@ -72,6 +73,7 @@ fn zone_shown_by(clock: Clock, seconds: i64, zone: TimeZone<'_>) -> Shown
     }
 }
 
+#[tactic(auto, using(gix_date::proofs::Text::Ints::held, crate::proofs::Formats::Shown::no_clock, crate::proofs::Printing::ShownClocks::zone_dated, crate::proofs::Formats::Shown::clock_dated, crate::proofs::Formats::Shown::a_clock))]
 fn zone_shown(seconds: i64, zone: TimeZone<'_>) -> Option<Shown>
     ensures { option_map shown_of result ≡ zone_shown (plain_zone zone.entry) seconds }
 {

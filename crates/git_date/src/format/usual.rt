@@ -33,8 +33,8 @@ fn pair_of(letter: u8, shown: &Shown) -> Option<u8>
 }
 
 /// Appends what a letter shows, a usual one at once. `false` says nothing: nothing is appended.
+#[tactic(auto, using(crate::proofs::Formats::Short::appended, crate::proofs::Formats::Short::two_filled, crate::proofs::Formats::Short::year_shown, crate::proofs::Formats::Short::four_filled, crate::proofs::Formats::Usual::day_shown, crate::proofs::Formats::Usual::month_shown, crate::proofs::Formats::Usual::clock_is_shown, crate::proofs::Formats::Usual::date_shown), unfolding(crate::specs::Tokens::Numbers::number))]
 #[inline(always)]
-#[tactic(auto, unfolding(crate::specs::Tokens::Numbers::number))]
 fn push_letter<const CAP: usize>(out: &mut ArrayString<CAP>, letter: u8, shown: &Shown) -> bool
     requires { array_string_len out.old + 10 ≤ CAP }
     ensures { PushesLetter (letter_text (shown_of shown.now) letter) out.old.bytes out.new.bytes result }
@@ -98,6 +98,7 @@ fn push_lettered<'a, const CAP: usize>(
 }
 
 /// Appends what a format shows first, if that is one byte before a percent sign, and answers what is left.
+#[tactic(auto, using(crate::proofs::Formats::Usual::mark_goes))]
 #[inline(always)]
 fn push_mark<'a, const CAP: usize>(out: &mut ArrayString<CAP>, text: &'a str) -> Option<&'a str>
     requires { array_string_len out.old + 1 ≤ CAP }

@@ -26,6 +26,7 @@ fn is_dated(seconds: i64) -> bool
     0 <= seconds && seconds <= LAST_OF_YEAR_9999
 }
 
+#[tactic(auto, using(gix_date::proofs::Text::Ints::held, crate::proofs::Printing::ShownClocks::and_last))]
 fn has_own_clock(time: Time) -> bool
     ensures { result ≡ has_own_clock time }
 {
@@ -41,6 +42,7 @@ fn has_zone_clock(seconds: i64) -> bool
 
 /// What the time's own clock shows. `None` if the time or what the clock shows is before 1970 or after the year 9999, and
 /// for an offset with seconds or of 100 hours or more.
+#[tactic(auto, using(crate::proofs::Printing::ShownClocks::an_own_clock, crate::proofs::Printing::ShownClocks::no_own_clock))]
 pub(crate) fn own_clock(time: Time) -> Option<Clock>
     ensures { result ≡ own_clock time }
 {
@@ -65,6 +67,7 @@ fn known_offset(shown: Clock) -> i32
 
 /// What the clock of a zone shows at an instant, which may be before 1970 there. `None` for an instant before 1970
 /// UTC, and after 9999-12-30 22:00:00 UTC, the last second of `jiff`.
+#[tactic(auto, using(gix_date::proofs::Text::Ints::held, crate::proofs::Printing::ShownClocks::no_zone_clock, crate::proofs::Printing::ShownClocks::zone_dated, crate::proofs::Printing::ShownClocks::near_zone, crate::proofs::Printing::ShownClocks::timed_at, crate::proofs::Printing::ShownClocks::a_zone_clock, crate::proofs::Printing::ShownClocks::known))]
 pub(crate) fn zone_clock(seconds: i64, zone: TimeZone<'_>) -> Option<Clock>
     ensures { result ≡ zone_clock (plain_zone zone.entry) seconds }
 {

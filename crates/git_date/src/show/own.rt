@@ -175,6 +175,7 @@ fn human_shown(
 }
 
 /// The seconds in decimal, and the offset as the line writes it.
+#[tactic(auto, using(crate::proofs::Printing::WrittenOffsets::any_offset))]
 fn own_raw_text(time: GitTime) -> OwnDateText
     ensures { result.bytes ≡ decimal_text time.seconds ++ spaced_offset_text time.offset }
 {
@@ -242,6 +243,7 @@ fn push_written_offset(text: &mut OwnDateText, mark: &str, offset: i32)
 }
 
 /// Appends a space and an offset as it is written.
+#[tactic(auto, using(gix_date::proofs::Text::Ints::held, crate::proofs::Printing::WrittenOffsets::short_offset))]
 fn push_spaced_offset(text: &mut OwnDateText, offset: i32)
     requires short { unsigned_abs offset < short_decimals }
     requires room { array_string_len text.old + 10 ≤ MAX_OWN_LEN }

@@ -13,6 +13,7 @@ const MAX_GROUPED: u64 = 9_223_372_036_854_775_807;
 pub(crate) const NUMBERS_OF_32_BITS: u64 = 4_294_967_296;
 
 /// The number that digits write, or else the greatest, at which Git stops.
+#[tactic(auto, using(crate::proofs::Rules::Saturated::saturated_is))]
 pub(crate) fn number(digits: &[u8]) -> u64
     ensures { result ≡ number digits.now }
 {

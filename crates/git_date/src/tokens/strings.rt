@@ -11,7 +11,7 @@ fn string_len(text: &[u8]) -> usize
 }
 
 /// The text before its first NUL, or all of it, and the place of that NUL.
-#[tactic(auto, unfolding(crate::specs::Tokens::Strings::before_nul))]
+#[tactic(auto, using(crate::proofs::Text::StringEnds::all_stand_before, crate::proofs::Text::StringEnds::holds_none, crate::proofs::Text::StringEnds::no_place, crate::proofs::Text::StringEnds::some_place_is, crate::proofs::Text::StringEnds::holds_one), unfolding(crate::specs::Tokens::Strings::before_nul))]
 pub(crate) fn up_to_nul(text: &[u8]) -> (&[u8], Option<usize>)
     ensures string { result.0.now ≡ before_nul text.now }
     ensures place { result.1 ≡ nul_place text.now }

@@ -26,16 +26,16 @@ abbrev IsAbsolute : FamilyAnswer → Type 0
 IsAbsolute (Relative date) = ⊥
 IsAbsolute answer = Unit {0}
 
-answer-is : (now : Option Zoned) (answer : FamilyAnswer) (time : Time) → IsAbsolute answer → ParseNoAllocOutcome (Some answer) now (Ok time) → answer ≡ Absolute time
-answer-is now (Absolute t) time a h = let same : time ≡ t = cc in ap Absolute (sym same)
-answer-is now (Relative date) time a h = absurd a
-answer-is now OffsetAboveDay time a h = absurd cc
-answer-is now NoInstant time a h = absurd cc
+answer_is : (now : Option Zoned) (answer : FamilyAnswer) (time : Time) → IsAbsolute answer → ParseNoAllocOutcome (Some answer) now (Ok time) → answer ≡ Absolute time
+answer_is now (Absolute t) time a h = let same : time ≡ t = cc in ap Absolute (sym same)
+answer_is now (Relative date) time a h = absurd a
+answer_is now OffsetAboveDay time a h = absurd cc
+answer_is now NoInstant time a h = absurd cc
 
 first-is : (rule : OffsetRule) (family : Family) (text : List ℕ) (now : Option Zoned) (time : Time) → IsUtf8 text → family ≢ GitForm → family ≢ RelativeText
     → ((answer : FamilyAnswer) → family_answer rule family text ≡ Some answer → IsAbsolute answer) → Holds rule family text
     → ParseNoAllocOutcome (first_family_by rule text) now (Ok time) → family_answer rule family text ≡ Some (Absolute time)
-first-is rule family text now time u a b absolute h outcome = grind (arith, answered, alone-first, answer-is, absolute)
+first-is rule family text now time u a b absolute h outcome = grind (arith, answered, alone-first, answer_is, absolute)
 
 -- seconds, and clocks, are times
 of-time : (found : Option Time) (answer : FamilyAnswer) → option_map Absolute found ≡ Some answer → IsAbsolute answer

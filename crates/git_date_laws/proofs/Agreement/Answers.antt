@@ -59,10 +59,10 @@ or-some : (i : Option ℕ) (place : ℕ) → option_or i (Some place) ≡ None �
 or-some (Some left) place e = cc
 or-some None place e = cc
 
-no-place : (place : Option ℕ) (read : Result Said DateError) (said : Said) → said_up_to place read ≡ Ok said → said.ignored ≡ None → place ≡ None
-no-place None read said e none = refl
-no-place (Some place) (Err x) said e none = absurd cc
-no-place (Some place) (Ok x) said e none = absurd (or-some x.ignored place (let same : record x { ignored = option_or x.ignored (Some place) } ≡ said = cc in ap (λ (s : Said). s.ignored) same ∙ none))
+no_place : (place : Option ℕ) (read : Result Said DateError) (said : Said) → said_up_to place read ≡ Ok said → said.ignored ≡ None → place ≡ None
+no_place None read said e none = refl
+no_place (Some place) (Err x) said e none = absurd cc
+no_place (Some place) (Ok x) said e none = absurd (or-some x.ignored place (let same : record x { ignored = option_or x.ignored (Some place) } ≡ said = cc in ap (λ (s : Said). s.ignored) same ∙ none))
 
 none-left : (place : ℕ → ℕ) (i : Option ℕ) → option_map place i ≡ None → i ≡ None
 none-left place None e = refl
@@ -100,5 +100,5 @@ pub time-is : (now : Now) (tz : TimeZone) (t : Time) (text : List ℕ) (date : R
 unfolding said_by string_said
 time-is now tz t text date goes fits h has none =
     let s = said-by tz (said_by now text) date h has none in
-    let whole = whole-text text (no-place (nul_place text) _ s.said s.is s.ignored) in
+    let whole = whole-text text (no_place (nul_place text) _ s.said s.is s.ignored) in
     s.time ∙ by-at now t text s.said s.minutes s.offset s.ignored (at_text (tokens text)) fits goes (sym s.is ∙ whole-said now text whole)

@@ -8,7 +8,7 @@ use Rattle.jiff_core.proofs.SignedLemmas.{signed_arith}
 use Rattle.gix_date.proofs.Fast.FastHeaders.{offset-taken}
 use Rattle.gix_date.proofs.Fields.ColonOffsets.{AreLastSeconds, IsColonOffset, strict-taken}
 use Rattle.gix_date.proofs.Fields.FieldsTaken.{went}
-use Rattle.gix_date.proofs.Fields.ThreeLetters.{month-is, weekday-is}
+use Rattle.gix_date.proofs.Fields.ThreeLetters.{month-is, weekday_is}
 use Rattle.gix_date.specs.Families.Patterns.{midnight}
 use Rattle.gix_date.specs.Fields.Civil.{civil_seconds}
 use Rattle.gix_date.specs.Fields.DateFields.{month_named, is_weekday as is_day_name, without_leap_second}
@@ -70,7 +70,7 @@ month-told ts h = absurd h
 
 day-told : (x : List ℕ) → AreThreeLetters x → is_weekday x ≡ is_day_name x
 unfolding is_weekday
-day-told (a ∷ b ∷ c ∷ []) h = weekday-is a b c
+day-told (a ∷ b ∷ c ∷ []) h = weekday_is a b c
 day-told ts h = absurd h
 
 -- an offset with colons, as tokens

@@ -13,7 +13,7 @@ use Rattle.git_date.specs.Tokens.Strings.{string_len, before_nul, nul_place}
 use Rattle.git_date.specs.Types.Names.{Now, Said}
 use Rattle.git_date.specs.declared.approximate.answer.Approximate.{Approximate}
 use Rattle.git_date.specs.declared.error.DateError.{DateError}
-use Rattle.git_date.proofs.Text.StringEnds.{within, first_len, same-len, longer-len, no-place, some-place, all-before, all-said}
+use Rattle.git_date.proofs.Text.StringEnds.{within, first_len, same-len, longer-len, no_place, some_place_is, all_stand_before, all-said}
 
 len-lower : (text : List ℕ) → string_len (str_to_ascii_lowercase text) ≡ string_len text
 len-lower [] = refl
@@ -47,7 +47,7 @@ module _ (A : Type 0) (up : Option ℕ → A → A) (of : List ℕ → A) (first
   cut text = up (nul_place text) (of (before_nul text))
 
   whole : (text : List ℕ) → string_len text ≡ length text → cut text ≡ of text
-  whole text e = (λ i. up (no-place text e i) (of (all-before text e i))) ∙ none (of text)
+  whole text e = (λ i. up (no_place text e i) (of (all_stand_before text e i))) ∙ none (of text)
 
   pub at-more : (text more : List ℕ) → (string_len text ≡ length text → of (text ++ before_nul more) ≡ of text)
       → cut (text ++ more) ≡ up (nul_place (text ++ more)) (cut text)
@@ -55,11 +55,11 @@ module _ (A : Type 0) (up : Option ℕ → A → A) (of : List ℕ → A) (first
       by-nul text _
       (λ less.
       let len = same-len text more less in
-      let place : nul_place (text ++ more) ≡ Some (string_len text) = some-place (text ++ more) (omega (arith, len, less, length-append text more)) ∙ ap (λ (n : ℕ). Some n) len in
+      let place : nul_place (text ++ more) ≡ Some (string_len text) = some_place_is (text ++ more) (omega (arith, len, less, length-append text more)) ∙ ap (λ (n : ℕ). Some n) len in
       ap (λ (x : List ℕ). up (nul_place (text ++ more)) (of x)) (same-before text more len)
       ∙ ap (λ (p : Option ℕ). up p (of (before_nul text))) place
       ∙ sym (first (nul_place (text ++ more)) (string_len text) (of (before_nul text)))
-      ∙ ap (λ (p : Option ℕ). up (nul_place (text ++ more)) (up p (of (before_nul text)))) (sym (some-place text less)))
+      ∙ ap (λ (p : Option ℕ). up (nul_place (text ++ more)) (up p (of (before_nul text)))) (sym (some_place_is text less)))
       (λ all. ap (up (nul_place (text ++ more))) (ap of (longer-before text more all) ∙ same all ∙ sym (whole text all)))
 
 -- the first place stays

@@ -239,9 +239,9 @@ said-parts : (text : List ℕ) (r : Reading) (seconds : Option ℤ) (said : Said
     → (seconds ≡ Some said.seconds) × (r.fields.offset ≡ said.offset) × (r.fields.epoch ≡ said.epoch) × (said.ignored ≡ option_map (place_in text) r.ignored)
 said-parts text r seconds said e = (grind arith, grind arith, grind arith, grind arith)
 
-pub ignores-unused : (moment : Zoned) (text : List ℕ) → IgnoresUnused moment text
+pub ignores_unused : (moment : Zoned) (text : List ℕ) → IgnoresUnused moment text
 unfolding said_by string_said fields_said
-ignores-unused moment text date reads = by (at_or_fields now string (at_text (tokens string))) refl reads
+ignores_unused moment text date reads = by (at_or_fields now string (at_text (tokens string))) refl reads
   where
     string : List ℕ
     string = before_nul text

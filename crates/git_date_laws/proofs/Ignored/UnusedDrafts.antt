@@ -187,9 +187,9 @@ answered : (text : List ℕ) (d : Draft) (time : Option Time) (date : Approximat
     → (time ≡ Some date.time) × (date.ignored ≡ option_map (place_in text) d.ignored)
 answered text d time date e = (grind arith, grind arith)
 
-pub ignores-earliest : (moment : Zoned) (text : List ℕ) → IgnoresEarliest moment text
+pub ignores_earliest : (moment : Zoned) (text : List ℕ) → IgnoresEarliest moment text
 unfolding string_guess
-ignores-earliest moment text date unreadable h = by-shown (shown_in zone now.seconds) refl parts.is_found
+ignores_earliest moment text date unreadable h = by-shown (shown_in zone now.seconds) refl parts.is_found
   where
     zone : States
     zone = states_of (zone_of moment)

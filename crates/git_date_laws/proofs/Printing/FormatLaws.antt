@@ -15,7 +15,7 @@ use Rattle.git_date.specs.Tokens.Numbers.{number}
 use Rattle.git_date.specs.Formats.Format.{shown_by_format, shown_pieces, asks_seconds, texts}
 use Rattle.git_date.specs.Formats.Pieces.{Piece, Text, is_percent, text_len, next_piece, pieces, pieces_in, pieces_or_none, made_at}
 use Rattle.git_date.specs.Formats.Shown.{Shown, shown_at, own_shown}
-use Rattle.git_date.proofs.Formats.Pieces.{next-text}
+use Rattle.git_date.proofs.Formats.Pieces.{next_text}
 use Rattle.git_date.proofs.Formats.Walks.{Left, left-all, left-next, left-end, pieces-are}
 use Rattle.git_date_laws.specs.Formats.{ShowsItself, ShowsStored, IsOfKnownYear}
 
@@ -36,7 +36,7 @@ one-piece : (format : List ℕ) → 0 < length format → list_any is_percent fo
 one-piece format h plain =
     let all = all-text format plain in
     let next : Ok (Text format, []) ≡ next_piece format =
-    next-text format format [] (length format) h (sym all) (λ e. absurd (omega arith)) (sym (take-length format)) (sym (drop-length format)) in
+    next_text format format [] (length format) h (sym all) (λ e. absurd (omega arith)) (sym (take-length format)) (sym (drop-length format)) in
     let start : Left format format (λ done. done ≡ []) = left-all format (λ done. done ≡ []) refl in
     let left : Left format [] (IsWhole format) =
     left-next format format [] (λ done. done ≡ []) (IsWhole format) (Text format) start h next h

@@ -12,7 +12,7 @@ use Rattle.jiff_core.specs.Calendar.{day_count, days_of_years, days_of_months}
 use Rattle.jiff_core.specs.Date.{epoch_day}
 use Rattle.jiff_core.specs.declared.civil.date.Date.{Date}
 use Rattle.gix_date.proofs.Fields.Instants.{z_holds, instant_from}
-use Rattle.gix_date.proofs.Printing.LocalClocks.{Shows, clock-shown, local-is, four-digits-from, shown-by}
+use Rattle.gix_date.proofs.Printing.LocalClocks.{Shows, clock_is_shown, local-is, four-digits-from, shown-by}
 use Rattle.gix_date.proofs.Printing.ReadBack.{local-instant, weekday-small}
 use Rattle.gix_date.specs.Fields.Civil.{civil_seconds, civil_instant, is_date, is_clock}
 use Rattle.gix_date.specs.Fields.ClockNumbers.{hours_in, minutes_in}
@@ -89,7 +89,7 @@ before-2100 date h =
 -- what the clock of such a time shows
 module _ (t : Time) (h : IsGitTime t) (z : PlainZoned) (shows : Shows z t) where
   shown : local_time z ≡ clock_of t
-  shown = clock-shown z t shows
+  shown = clock_is_shown z t shows
 
   first : 1970 ≤ (local_time z).date.year
   first = subst (λ (l : LocalTime). 1970 ≤ l.date.year) (sym shown) h.first
@@ -143,13 +143,13 @@ module _ (t : Time) (h : IsGitTime t) (z : PlainZoned) (shows : Shows z t) where
       let is = counted in
       instant_from (clock_of_utc (local_time z)) (omega (arith, signed_arith, day, local, since, near, is), omega (arith, signed_arith, day, local, since, near, is))
 
-  seconds-back : instant_seconds (said_of (local_time z)) (offset_in_minutes (local_time z)) ≡ t.seconds
-  seconds-back = let is = counted in let minutes = back in omega (arith, signed_arith, is, minutes)
+  seconds_back : instant_seconds (said_of (local_time z)) (offset_in_minutes (local_time z)) ≡ t.seconds
+  seconds_back = let is = counted in let minutes = back in omega (arith, signed_arith, is, minutes)
 
   time-back : date_at (said_of (local_time z)) (offset_in_minutes (local_time z)) ≡ Ok (record { time = t; has_offset = true; ignored = None })
   unfolding date_at
   time-back =
-      ap (λ (s : ℤ). cond (le_z (pos 0) s) (Ok (record { time = record { seconds = s; offset = pos 60 *ℤ offset_in_minutes (local_time z) }; has_offset = true; ignored = None })) (Err error.Range)) seconds-back
+      ap (λ (s : ℤ). cond (le_z (pos 0) s) (Ok (record { time = record { seconds = s; offset = pos 60 *ℤ offset_in_minutes (local_time z) }; has_offset = true; ignored = None })) (Err error.Range)) seconds_back
       ∙ ap (λ (o : ℤ). cond (le_z (pos 0) t.seconds) (Ok (record { time = record { seconds = t.seconds; offset = o }; has_offset = true; ignored = None })) (Err error.Range)) back
       ∙ ap (λ (b : Bool). cond b (Ok (record { time = t; has_offset = true; ignored = None })) (Err error.Range)) (z_holds (pos 0) t.seconds h.since_1970)
 

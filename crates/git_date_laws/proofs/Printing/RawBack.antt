@@ -93,6 +93,6 @@ by-seconds : (tz : TimeZone) (this : Now) (s o : ℤ) (result : Result ReadDate 
 by-seconds tz this (negsuc n) o result past written instant h = absurd cc
 by-seconds tz this (pos n) o result past written instant h = grind (arith, instant_holds, and_parts, said_at, minutes_of, raw-said, signed_arith, date-is, minutes-back)
 
-pub raw-back : (tz : TimeZone) (this : Now) (now : Moment) (t : Time) (text : List ℕ) (result : Result ReadDate DateError) → is_instant t.seconds ≡ true
+pub raw_back : (tz : TimeZone) (this : Now) (now : Moment) (t : Time) (text : List ℕ) (result : Result ReadDate DateError) → is_instant t.seconds ≡ true
     → shown now (own Raw) t ≡ Some text → result ≡ date_of tz (said_by this (at_sign ∷ text)) → result ≡ Ok (record { time = t; has_offset = true; ignored = None })
-raw-back tz this now t text result instant e h = grind (arith, raw-parts, by-seconds)
+raw_back tz this now t text result instant e h = grind (arith, raw-parts, by-seconds)

@@ -22,7 +22,7 @@ use Rattle.gix_date.specs.Text.Front.{◌>>=◌}
 use Rattle.gix_date.specs.Text.Numbers.{two_digits}
 use Rattle.gix_date.specs.declared.time.Time.{Time}
 use Rattle.git_date.proofs.Exact.ZoneOffsets.{offset-near}
-use Rattle.git_date.proofs.Printing.ShownClocks.{dated, zone-dated}
+use Rattle.git_date.proofs.Printing.ShownClocks.{dated, zone_dated}
 use Rattle.git_date.proofs.Rules.ClocksBack.{before-1900}
 use Rattle.git_date.specs.Show.Clocks.{own_clock, has_own_clock, zone_clock, has_zone_clock, time_at, with_known_offset}
 use Rattle.git_date.specs.Show.Dates.{shown}
@@ -35,14 +35,14 @@ use Rattle.git_date_laws.specs.Formats.{ShowsModes}
 use Rattle.git_date_laws.proofs.Printing.FormatLaws.{and-false}
 
 -- numbers that are filled with zeros
-two-filled : (n : ℕ) → n < 100 → filled true 2 (decimal n) ≡ two_digits n
-two-filled n h =
+two_filled : (n : ℕ) → n < 100 → filled true 2 (decimal n) ≡ two_digits n
+two_filled n h =
     let e : int_le (pos 0) (pos n) ≡ true = grind (arith, ints) in
     let is : number 2 (pos n) ≡ filled true 2 (decimal n) = rw e refl in
     sym is ∙ number-two n h
 
-four-filled : (n : ℕ) → 1000 ≤ n → n ≤ 9999 → filled true 4 (decimal n) ≡ four_digits n
-four-filled n low high =
+four_filled : (n : ℕ) → 1000 ≤ n → n ≤ 9999 → filled true 4 (decimal n) ≡ four_digits n
+four_filled n low high =
     let e : int_le (pos 0) (pos n) ≡ true = grind (arith, ints) in
     let is : number 4 (pos n) ≡ filled true 4 (decimal n) = rw e refl in
     sym is ∙ number-four n low high
@@ -113,7 +113,7 @@ own-shown-clock t clock e = by (has_own_clock t) refl e
 
 zone-dated-clock : (zone : TimeZone) (s : ℤ) → has_zone_clock s ≡ true → IsShownClock s (with_known_offset (clock_of (time_at zone s)))
 zone-dated-clock zone s h =
-    let within = zone-dated s h in
+    let within = zone_dated s h in
     let near = offset-near zone (nanos_of_seconds s) in
     (not-before s within.0, digits-of (time_at zone s) (omega (arith, signed_arith, within, near), omega (arith, signed_arith, within, near)))
 
@@ -132,11 +132,11 @@ alike past (Some clock) show ps text none is = grind (arith, and-false)
 -- the texts of both patterns
 iso8601-texts : (seen : Shown) → HasDigits seen.clock.date seen.clock.clock → texts seen (pieces_or_none iso8601_pattern) ≡ iso8601_text seen.clock
 unfolding pieces pieces_in next_piece made_at digits_number
-iso8601-texts seen has = grind (arith, four-filled, two-filled)
+iso8601-texts seen has = grind (arith, four_filled, two_filled)
 
 short-texts : (seen : Shown) → HasDigits seen.clock.date seen.clock.clock → texts seen (pieces_or_none (codes "%F")) ≡ short_text seen.clock
 unfolding pieces pieces_in next_piece made_at digits_number
-short-texts seen has = grind (arith, four-filled, two-filled)
+short-texts seen has = grind (arith, four_filled, two_filled)
 
 module _ (pattern : List ℕ) (text : LocalTime → List ℕ) (none : asks_seconds (pieces_or_none pattern) ≡ false)
     (is : (seen : Shown) → HasDigits seen.clock.date seen.clock.clock → texts seen (pieces_or_none pattern) ≡ text seen.clock)

@@ -206,6 +206,6 @@ module _ (moment : Zoned) (found : IsFoundNow moment) where
       by true e = guessed-so text date e silent
       by false e = absurd cc
 
-pub moment-unless : (moment : Zoned) (text : List ℕ) → IsMomentUnlessUnderstood moment text
-moment-unless moment text date found answers silent =
+pub moment_unless : (moment : Zoned) (text : List ℕ) → IsMomentUnlessUnderstood moment text
+moment_unless moment text date found answers silent =
     exact-or moment found text date (date_of (zone_of moment) (said_by (now_of moment) text)) (sym answers) silent

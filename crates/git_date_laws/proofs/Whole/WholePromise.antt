@@ -22,7 +22,7 @@ use Rattle.git_date.specs.declared.mode.DateKind.TheVariants.{Iso8601Strict, Iso
 use Rattle.git_date_laws.proofs.Whole.EveryZone.{now-in-every-zone}
 use Rattle.git_date_laws.proofs.Whole.Guesses.{exact_answers, same_in_any_case}
 use Rattle.git_date_laws.proofs.Printing.PrintedBack.{read-back, zone-is}
-use Rattle.git_date_laws.proofs.Printing.RawBack.{raw-back}
+use Rattle.git_date_laws.proofs.Printing.RawBack.{raw_back}
 use Rattle.git_date_laws.proofs.Printing.SecondsAlone.{raw-alone, unix-alone}
 use Rattle.git_date_laws.proofs.Printing.ShownLaws.{default-mapped, when-shown}
 use Rattle.git_date_laws.proofs.Alike.Cases.{any_case}
@@ -76,5 +76,5 @@ headline-holds moment text t = record {
   read_back = λ kind local at shown all h e. read-shown moment at t shown kind local all h e;
   raw_alone = λ local at shown epoch h e. raw-alone moment at local t shown epoch h e;
   unix_alone = λ local at tz shown date epoch e read. unix-alone (now_of moment) at local tz t shown date epoch e read;
-  raw_read_back = λ at shown result. raw-back (zone_of moment) (now_of moment) at t shown result;
+  raw_read_back = λ at shown result. raw_back (zone_of moment) (now_of moment) at t shown result;
 }

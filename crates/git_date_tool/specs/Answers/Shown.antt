@@ -6,25 +6,21 @@ use Rattle.std.specs.Global.{Global}
 use Rattle.std.specs.declared.alloc.AllocError.{AllocError}
 use Rattle.jiff.specs.declared.zoned.Zoned.{Zoned}
 use Rattle.gix_date.specs.Printing.Formats.{Prints}
-use Rattle.gix_date.specs.Printing.NamedTexts.{short_pattern, rfc2822_pattern, git_rfc2822_pattern, iso8601_pattern, iso8601_strict_pattern, gitoxide_pattern, default_pattern}
+use Rattle.gix_date.specs.Printing.NamedFormats.{Printed, format_named, printed_by}
 use Rattle.gix_date.specs.declared.error.Error.{Error}
 use Rattle.gix_date.specs.declared.error.Error.TheVariants as errors
 use Rattle.gix_date.specs.declared.time.Time.{Time}
 use Rattle.gix_date.specs.declared.time.format.Format.{Format}
-use Rattle.gix_date.specs.declared.time.format.Format.TheVariants.{Custom, Unix as UnixFormat, Raw as RawFormat}
 use Rattle.git_date.specs.Formats.Format.{format_bytes, shown_by_format}
 use Rattle.git_date.specs.Formats.Pieces.{checked}
 use Rattle.git_date.specs.Show.Modes.{mode_named}
 use Rattle.git_date.specs.Show.Dates.{shown}
 use Rattle.git_date.specs.Show.Clocks.{moment_of}
 use Rattle.git_date.specs.declared.mode.DateMode.{DateMode}
-use Rattle.gix_date_tool.specs.Names.{named_in}
 use Rattle.git_date_tool.specs.declared.answers.refusals.Refusal.{Refusal}
 use Rattle.git_date_tool.specs.declared.answers.refusals.Refusal.TheVariants.{NotShown}
 use Rattle.git_date_tool.specs.declared.answers.shown.DateLine.{DateLine}
 use Rattle.git_date_tool.specs.declared.answers.shown.DateLine.TheVariants as lines
-use Rattle.git_date_tool.specs.declared.answers.shown.NamedFormat.{NamedFormat}
-use Rattle.git_date_tool.specs.declared.answers.shown.NamedFormat.TheVariants.{Short, Rfc2822, GitRfc2822, Iso8601, Iso8601Strict, Gitoxide, Default, Unix, Raw}
 use Rattle.git_date_tool.specs.declared.answers.shown.Shown.{Shown}
 use Rattle.git_date_tool.specs.declared.answers.shown.Shown.TheVariants as shows
 use Rattle.git_date_tool.specs.declared.answers.shown.NoWay.{NoWay}
@@ -34,20 +30,14 @@ use Rattle.git_date_tool.specs.declared.answers.shown.NoWay.TheVariants as lacks
 -- moment's zone or by the time's own.
 pub data Way : Type 0 where
   Git : DateMode → Way
-  Gix : NamedFormat → Way
+  Gix : Printed → Way
   ByFormat : List ℕ → Bool → Way
 
 -- what the code has of it
 abbrev pub way_of : Shown → Way
 way_of (shows.Git mode) = Git mode
-way_of (shows.Gix named) = Gix named
+way_of (shows.Gix format) = Gix (printed_by format)
 way_of (shows.ByFormat format local) = ByFormat (format_bytes format) local
-
--- the format of gix-date that has this name
-abbrev pub format_named : List ℕ → Option NamedFormat
-format_named =
-    named_in ((codes "SHORT", Short) ∷ (codes "RFC2822", Rfc2822) ∷ (codes "GIT_RFC2822", GitRfc2822) ∷ (codes "ISO8601", Iso8601)
-    ∷ (codes "ISO8601_STRICT", Iso8601Strict) ∷ (codes "GITOXIDE", Gitoxide) ∷ (codes "DEFAULT", Default) ∷ (codes "UNIX", Unix) ∷ (codes "RAW", Raw) ∷ [])
 
 -- what stands after a front, in a text that begins so
 abbrev pub after_front : List ℕ → List ℕ → Option (List ℕ)
@@ -58,7 +48,7 @@ abbrev pub by_format : Bool → List ℕ → Result Way NoWay
 by_format local format = result_map_both (λ whole. ByFormat whole local) lacks.Format (checked format)
 
 -- a format of gix-date, or else a mode of Git
-abbrev pub format_or_mode : Option NamedFormat → Option DateMode → Result Way NoWay
+abbrev pub format_or_mode : Option Printed → Option DateMode → Result Way NoWay
 format_or_mode (Some format) mode = Ok (Gix format)
 format_or_mode None mode = ok_or (option_map Git mode) lacks.Unknown
 
@@ -71,23 +61,6 @@ way_after None None name = format_or_mode (format_named name) (mode_named name)
 -- what a name stands for
 abbrev pub way_named : List ℕ → Result Way NoWay
 way_named name = way_after (after_front (codes "format:") name) (after_front (codes "format-local:") name) name
-
--- the format has this pattern
-abbrev pub HasPattern : List ℕ → Format → Type 0
-HasPattern pattern (Custom format) = format.pattern.now ≡ pattern
-HasPattern pattern _ = ⊥
-
--- the format of a name
-abbrev pub IsFormat : NamedFormat → Format → Type 0
-IsFormat Short format = HasPattern short_pattern format
-IsFormat Rfc2822 format = HasPattern rfc2822_pattern format
-IsFormat GitRfc2822 format = HasPattern git_rfc2822_pattern format
-IsFormat Iso8601 format = HasPattern iso8601_pattern format
-IsFormat Iso8601Strict format = HasPattern iso8601_strict_pattern format
-IsFormat Gitoxide format = HasPattern gitoxide_pattern format
-IsFormat Default format = HasPattern default_pattern format
-IsFormat Unix format = format ≡ UnixFormat
-IsFormat Raw format = format ≡ RawFormat
 
 -- the text of a date
 abbrev pub line_text : DateLine → List ℕ
@@ -109,10 +82,8 @@ IsPrinted (Err e) (Err memory) = e ≡ errors.Memory
 IsPrinted _ _ = ⊥
 
 -- a format of gix-date prints so
-abbrev pub IsShownByGix : NamedFormat → Time → Result (Result DateLine Refusal) AllocError → Type 0
-IsShownByGix named time result =
-    (format : Format) × IsFormat named format
-    × (printed : Result (String Global) Error) × Prints time format printed × IsPrinted printed result
+abbrev pub IsShownByGix : Format → Time → Result (Result DateLine Refusal) AllocError → Type 0
+IsShownByGix format time result = (printed : Result (String Global) Error) × Prints time format printed × IsPrinted printed result
 
 -- the same by a format of Git: there may be no memory for the text
 abbrev pub IsShownByFormat : Option (List ℕ) → Result (Result DateLine Refusal) AllocError → Type 0
@@ -122,6 +93,6 @@ IsShownByFormat text (Err memory) = IsSome text
 -- what showing a time at a moment comes to
 abbrev pub IsShown : Shown → Zoned → Time → Result (Result DateLine Refusal) AllocError → Type 0
 IsShown (shows.Git mode) now time result = IsShownByGit (shown (moment_of now) mode time) result
-IsShown (shows.Gix named) now time result = IsShownByGix named time result
+IsShown (shows.Gix format) now time result = IsShownByGix format time result
 IsShown (shows.ByFormat format local) now time result =
     IsShownByFormat (shown_by_format (moment_of now).zone local (format_bytes format) time) result

@@ -6,7 +6,7 @@ use Rattle.std.specs.List.{after_first, before_first, position_or_len}
 use Rattle.std.specs.Option.{is_some}
 use Rattle.std.specs.Str.{bytes_eq}
 use Rattle.gix_date.specs.Text.Characters.{minus}
-use Rattle.gix_date_tool.specs.Names.{named_in}
+use Rattle.gix_date.specs.Text.Names.{value_named}
 use Rattle.git_date_tool.specs.Answers.Shown.{Way, way_named, way_of}
 use Rattle.git_date_tool.specs.CommandLine.Wrong.{about, late_option, no_option, no_reader, no_value, no_way, option_text, twice, two_demands, wrong_words}
 use Rattle.git_date_tool.specs.declared.program.arguments.Command.{Command}
@@ -69,12 +69,12 @@ is_option (b ∷ bs) = b == minus
 
 -- the option of a name
 abbrev pub option_named : List ℕ → Option Given
-option_named = named_in ((codes "--now", Now) ∷ (codes "--zone", Zone) ∷ (codes "--as", As) ∷ (codes "--show", Show) ∷ [])
+option_named = value_named ((codes "--now", Now) ∷ (codes "--zone", Zone) ∷ (codes "--as", As) ∷ (codes "--show", Show) ∷ [])
 
 -- the reader of a name
 abbrev pub reader_named : List ℕ → Option Reader
 reader_named =
-    named_in ((codes "exact", Exact) ∷ (codes "approxidate", Approxidate) ∷ (codes "careful", Careful) ∷ (codes "gix", Gix) ∷ (codes "header", Header) ∷ [])
+    value_named ((codes "exact", Exact) ∷ (codes "approxidate", Approxidate) ∷ (codes "careful", Careful) ∷ (codes "gix", Gix) ∷ (codes "header", Header) ∷ [])
 
 -- Below, what is wrong is what is said of it.
 

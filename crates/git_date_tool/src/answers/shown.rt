@@ -1,60 +1,15 @@
 //! How dates are shown.
 ghost use Rattle.std.specs.Prelude.{◌≡◌, option_map};
 ghost use Rattle.std.specs.Result.{result_map_both};
-ghost use Rattle.git_date_tool.specs.Answers.Shown.{after_front, by_format, way_named, way_of, format_named, IsFormat, IsShown, line_text};
+ghost use Rattle.git_date_tool.specs.Answers.Shown.{after_front, by_format, way_named, way_of, IsShown, line_text};
 
 use crate::answers::refusals::Refusal;
 use git_date::{
     DateFormat, DateKind, DateMode, DateText, FormatFault, ShowError, show_date, text_by_format,
 };
-use gix_date::time::format::{
-    DEFAULT, Format, GIT_RFC2822, GITOXIDE, ISO8601, ISO8601_STRICT, RAW, RFC2822, SHORT, UNIX,
-};
+use gix_date::time::format::{Format, format_named};
 use gix_date::{Error, Time, Zoned};
-use gix_date_tool::named;
 use std::alloc::{AllocError, Global};
-
-/// A named format of the crate gix-date.
-#[derive(Clone, Copy, Debug, PartialEq, Eq)]
-pub enum NamedFormat {
-    /// [`gix_date::time::format::SHORT`]
-    Short,
-    /// [`gix_date::time::format::RFC2822`]
-    Rfc2822,
-    /// [`gix_date::time::format::GIT_RFC2822`]
-    GitRfc2822,
-    /// [`gix_date::time::format::ISO8601`]
-    Iso8601,
-    /// [`gix_date::time::format::ISO8601_STRICT`]
-    Iso8601Strict,
-    /// [`gix_date::time::format::GITOXIDE`]
-    Gitoxide,
-    /// [`gix_date::time::format::DEFAULT`]
-    Default,
-    /// [`gix_date::time::format::UNIX`]
-    Unix,
-    /// [`gix_date::time::format::RAW`]
-    Raw,
-}
-
-impl NamedFormat {
-    /// The format itself.
-    fn format(self) -> Format
-        ensures { IsFormat self result }
-    {
-        match self {
-            NamedFormat::Short => SHORT.into(),
-            NamedFormat::Rfc2822 => RFC2822.into(),
-            NamedFormat::GitRfc2822 => GIT_RFC2822.into(),
-            NamedFormat::Iso8601 => ISO8601.into(),
-            NamedFormat::Iso8601Strict => ISO8601_STRICT.into(),
-            NamedFormat::Gitoxide => GITOXIDE.into(),
-            NamedFormat::Default => DEFAULT.into(),
-            NamedFormat::Unix => UNIX,
-            NamedFormat::Raw => RAW,
-        }
-    }
-}
 
 /// What is shown of a date.
 #[derive(Clone, Copy, Debug)]
@@ -62,7 +17,7 @@ pub enum Shown<'w> {
     /// What `git log --date=MODE` shows.
     Git(DateMode),
     /// What [`gix_date::Time::format`] prints.
-    Gix(NamedFormat),
+    Gix(Format),
     /// What `git log --date=format:FORMAT` shows, or `format-local:FORMAT` by the clock of the moment's zone.
     ByFormat(DateFormat<'w>, bool),
 }
@@ -121,24 +76,6 @@ fn by_format(format: &str, local: bool) -> Result<Shown<'_>, NoWay>
     }
 }
 
-/// The format of gix-date that has this name.
-fn format_named(name: &str) -> Option<NamedFormat>
-    ensures { result ≡ format_named name.now }
-{
-    let formats = [
-        ("SHORT", NamedFormat::Short),
-        ("RFC2822", NamedFormat::Rfc2822),
-        ("GIT_RFC2822", NamedFormat::GitRfc2822),
-        ("ISO8601", NamedFormat::Iso8601),
-        ("ISO8601_STRICT", NamedFormat::Iso8601Strict),
-        ("GITOXIDE", NamedFormat::Gitoxide),
-        ("DEFAULT", NamedFormat::Default),
-        ("UNIX", NamedFormat::Unix),
-        ("RAW", NamedFormat::Raw),
-    ];
-    named(&formats, name)
-}
-
 /// The text of a date.
 #[derive(Debug, Drop)]
 pub enum DateLine {
@@ -177,7 +114,7 @@ pub(crate) fn show(
             Ok(text) => Ok(Ok(DateLine::Git(text))),
             Err(_) => Ok(Err(Refusal::NotShown)),
         },
-        Shown::Gix(named) => match time.format(alloc, named.format()) {
+        Shown::Gix(format) => match time.format(alloc, format) {
             Ok(text) => Ok(Ok(DateLine::Gix(text))),
             Err(Error::Memory) => Err(AllocError),
             Err(_) => Ok(Err(Refusal::NotShown)),

@@ -9,7 +9,7 @@ ghost use Rattle.git_date_tool.specs.CommandLine.Wrong.{option_text, wrong_words
 use crate::answers::readers::{Reader, Strictness};
 use crate::answers::shown::{NoWay, Shown, shown_named};
 use crate::program::wrong::WrongWords;
-use gix_date_tool::named;
+use gix_date::names::value_named;
 
 /// What the words of a command line ask for.
 #[derive(Clone, Copy)]
@@ -263,7 +263,7 @@ fn option_named(word: &str) -> Option<Given>
         ("--as", Given::As),
         ("--show", Given::Show),
     ];
-    named(&options, word)
+    value_named(&options, word)
 }
 
 impl Given {
@@ -353,5 +353,5 @@ fn reader_named(word: &str) -> Option<Reader>
         ("gix", Reader::Gix),
         ("header", Reader::Header),
     ];
-    named(&readers, word)
+    value_named(&readers, word)
 }

@@ -50,5 +50,5 @@ Of refusals, unreadable, unknown-format, no-header, unclear and not-understood m
 stands at the place, and ignored, by --strict, that it skips a word. number-too-large, back-too-far, year-refused, range and
 date-conversion mean that there is no such date, or Git refuses it; after-year-9999, that seconds for careful are perhaps milliseconds,
 or a date and a clock in digits alone (`@` before them reads them); missing-moment, that the date is relative where none may be;
-not-canonical, that a header is not as Git writes it; not-shown, that MODE cannot show the date.
+no_time_not_canonical, that a header is not as Git writes it; not-shown, that MODE cannot show the date.
 "#;

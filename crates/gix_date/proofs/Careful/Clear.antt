@@ -1,9 +1,10 @@
 -- What is clear is ASCII.
+use Rattle.std.proofs.lemmas.Grind.{common_steps}
 use Rattle.std.proofs.Common.{◌≡◌, ◌<◌, ℕ, Bool, true, false, cond, List, refl, arith}
 use Rattle.std.proofs.lemmas.Bool.{and_parts as both}
 use Rattle.std.proofs.lemmas.Bool.Decides.{nat_tests}
 use Rattle.std.specs.Prelude.{◌&&◌, ◌||◌, not, slice_index, ◌==◌}
-use Rattle.gix_date.specs.Careful.Texts.{after_word, begins_word, in_word, is_clear_at, is_separator, may_stand_after, separates, word_at, word_before}
+use Rattle.gix_date.specs.Careful.Texts.{after_word, begins_word, in_word, is_clear_at, is_separator, separates}
 use Rattle.gix_date.specs.Text.Characters.{minus}
 use Rattle.gix_date.proofs.Relative.RelativeWordSteps.{run_ascii as word_is_ascii}
 
@@ -20,11 +21,8 @@ either false b n f g h = g h
 
 chosen : (text : List ℕ) (place : ℕ) (begins fits : Bool) → begins_word text place ≡ begins → cond begins fits (in_word text place || separates text place) ≡ true → slice_index text place < 128
 chosen text place true fits e h = word_is_ascii (slice_index text place) (both (in_word text place) (not (after_word text place)) e).0
-chosen text place false fits e h =
-    let b = slice_index text place in
-    either (in_word text place) (separates text place) b (word_is_ascii b)
-    (either (is_separator b) (b == minus && after_word text place) b (separator_is_ascii b) (dash_is_ascii b (after_word text place))) h
+chosen text place false fits e h = grind (arith, nat_tests, common_steps, either, word_is_ascii, separator_is_ascii, dash_is_ascii)
 
 pub clear_is_ascii : (text : List ℕ) (place : ℕ) → is_clear_at text place ≡ true → slice_index text place < 128
 unfolding is_clear_at
-clear_is_ascii text place h = chosen text place (begins_word text place) (may_stand_after (word_before text place) (word_at text place)) refl h
+clear_is_ascii text place h = grind (arith, chosen)

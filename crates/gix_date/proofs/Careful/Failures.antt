@@ -1,6 +1,5 @@
 -- The first place that fails a test.
 use Rattle.std.proofs.Common.{◌≡◌, ◌∙◌, ◌+◌, ◌-◌, ◌<◌, ℕ, zero, suc, Bool, true, false, List, length, cond, refl, sym, ap, arith, Option, Some, None}
-use Rattle.std.specs.Option.{option_or}
 use Rattle.gix_date.specs.Careful.Texts.{ends_in_ago, first_failure, is_clear_at, unclear_place, word_before}
 
 pub goes_on : (t : ℕ → Bool) (k : ℕ) → first_failure t k ≡ None → t k ≡ true → first_failure t (suc k) ≡ None
@@ -22,8 +21,7 @@ failed_first t k n none here less =
 -- the place where a text stops being clear
 pub stopped : (text : List ℕ) (place : ℕ) → first_failure (is_clear_at text) place ≡ None → is_clear_at text place ≡ false → place < length text → Some place ≡ unclear_place text
 unfolding unclear_place
-stopped text place none here less =
-    sym (ap (λ (p : Option ℕ). option_or p (cond (ends_in_ago (word_before text (length text))) None (Some (length text)))) (failed_first (is_clear_at text) place (length text) none here less))
+stopped text place none here less = grind (arith, failed_first)
 
 -- a text that is clear at each place
 pub ended : (text : List ℕ) (place : ℕ) (before : Option (List ℕ)) (ago : Bool) → first_failure (is_clear_at text) place ≡ None → before ≡ word_before text place → place ≡ length text

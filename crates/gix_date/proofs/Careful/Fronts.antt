@@ -1,4 +1,5 @@
 -- What is left of a text where a form stops is its end, so that the text may be cut there.
+use Rattle.std.proofs.Common.{arith}
 use Rattle.std.proofs.Common.{◌≡◌, ◌∙◌, ℕ, ℤ, Bool, true, false, cond, List, [], ◌∷◌, ◌++◌, length, refl, ap, sym, subst, append-nil, append_assoc, Option, Some, None, option_map, inl, inr, take-append-drop}
 use Rattle.std.proofs.lemmas.Option.{same_Some as some-is, cond_some as guard}
 use Rattle.std.specs.Char.{is_ascii_digit}
@@ -48,11 +49,7 @@ left-all (part ∷ parts) text h = by (λ next. left-all parts next h.1) (part t
     by more (Some next) e = through text next (left_by parts [] next) (h.0 text next e) (more next)
 
 perhaps-is : (part : Part) → IsPart part → IsPart (perhaps part)
-perhaps-is part h text rest e = by (part text) refl e
-  where
-    by : (o : Option (List ℕ)) → part text ≡ o → Some (unwrap_or o text) ≡ Some rest → IsRestOf text rest
-    by None f e = turned text text rest (some-is text rest e) ([], refl)
-    by (Some next) f e = turned text next rest (some-is next rest e) (h text next f)
+perhaps-is part h text rest e = grind (arith, turned, some-is)
 
 taken-is : {A : Type 0} (read : List ℕ → ReadFront A) → ((text : List ℕ) (value : A) (rest : List ℕ) → read text ≡ Some (value, rest) → IsRestOf text rest) → IsPart (taken_by read)
 taken-is {A} read h text rest e = by (read text) refl e
@@ -96,9 +93,9 @@ tested-is {A} read test h text rest e =
     let d = went (read text) (λ (d : A × List ℕ). cond (test d.0) (Some d.1) None) rest e in
     turned text d.0.1 rest (guard (test d.0.0) d.0.1 rest d.2).1 (h text d.0.0 d.0.1 d.1)
 
-day-is : IsPart skip_day
+day_is_named : IsPart skip_day
 unfolding skip_day
-day-is = tested-is read_plain_date is_date (λ text value rest e. let h = date-taken text value rest e in (h.text, h.whole))
+day_is_named = tested-is read_plain_date is_date (λ text value rest e. let h = date-taken text value rest e in (h.text, h.whole))
 
 clock-is : IsPart skip_clock
 unfolding skip_clock
@@ -127,10 +124,7 @@ number-taken (c ∷ t) rest e =
 -- the same after a mark
 pub marked-taken : (mark : ℕ) (text rest : List ℕ) → skip_marked mark text ≡ Some rest → (run : List ℕ) × (text ≡ mark ∷ (run ++ rest)) × AreSomeDigits run
 unfolding skip_marked
-marked-taken mark text rest e =
-    let after = went (skip_char mark text) skip_number rest e in
-    let n = number-taken after.0 rest after.2 in
-    (n.0, after-taken mark text after.0 after.1 ∙ ap (λ xs. mark ∷ xs) n.1, n.2)
+marked-taken mark text rest e = grind (arith, went, number-taken, after-taken)
 
 -- six digits and a fraction
 abbrev pub IsBare : List ℕ → List ℕ → Type 0
@@ -188,10 +182,10 @@ pub git-left : (text : List ℕ) → IsRestOf text (left_by git_parts text text)
 git-left text = left-is git_parts text text (perhaps-is skip_spaces spaces-is, (git-day-is, (perhaps-is skip_spaces spaces-is, (git-clock-is, (perhaps-is skip_spaces spaces-is, (offset-is _, tt)))))) (whole-is text)
 
 pub iso8601-left : (text : List ℕ) → IsRestOf text (left_by iso8601_parts text text)
-iso8601-left text = left-is iso8601_parts text text (day-is, (spaces-is, (clock-is, (spaces-is, (offset-is _, tt))))) (whole-is text)
+iso8601-left text = left-is iso8601_parts text text (day_is_named, (spaces-is, (clock-is, (spaces-is, (offset-is _, tt))))) (whole-is text)
 
 pub strict-left : (text : List ℕ) → IsRestOf text (left_by strict_parts text text)
-strict-left text = left-is strict_parts text text (day-is, (char-is _, (clock-is, (offset-is _, tt)))) (whole-is text)
+strict-left text = left-is strict_parts text text (day_is_named, (char-is _, (clock-is, (offset-is _, tt)))) (whole-is text)
 
 pub rfc2822-left : (text : List ℕ) → IsRestOf text (left_by rfc2822_parts text text)
 rfc2822-left text =

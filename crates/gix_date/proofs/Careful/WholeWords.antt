@@ -39,10 +39,7 @@ behind-word text p =
 goes-on : (text : List ℕ) (p m : ℕ) → p < m → ((i : ℕ) → p ≤ i → i < suc m → in_word text i ≡ true) → (is_clear_at text m ≡ true) × (begins_word text m ≡ false)
 unfolding is_clear_at
 goes-on text p zero l all = absurd (omega (arith, l))
-goes-on text p (suc m) l all =
-    let after : in_word text m ≡ true = all m (omega (arith, l)) (omega arith) in
-    let here : in_word text (suc m) ≡ true = all (suc m) (omega (arith, l)) (omega arith) in
-    (rw (here, after) refl, rw (here, after) refl)
+goes-on text p (suc m) l all = grind (arith)
 
 passed : (text : List ℕ) (p k m : ℕ) → m ≡ k + suc p → ((i : ℕ) → p ≤ i → i < m → in_word text i ≡ true) → first_failure (is_clear_at text) (suc p) ≡ None → last_place (begins_word text) (suc p) ≡ Some p
     → (first_failure (is_clear_at text) m ≡ None) × (last_place (begins_word text) m ≡ Some p)

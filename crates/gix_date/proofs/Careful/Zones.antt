@@ -1,5 +1,6 @@
 -- The time of a date in a zone, from what the zone chooses.
-use Rattle.std.proofs.Common.{◌≡◌, ◌∙◌, ℤ, ap₂, sym, subst}
+use Rattle.std.proofs.Common.{arith}
+use Rattle.std.proofs.Common.{◌≡◌, ◌∙◌, ℤ, sym, subst}
 use Rattle.jiff.specs.Words.{civil_nanos, epoch_day, nanos_of_seconds, offset_at}
 use Rattle.jiff.specs.Types.{TimeZone, DateTime, Date, Time as Clock}
 use Rattle.gix_date.specs.Careful.Dates.{IsLocalTime}
@@ -13,11 +14,7 @@ civil-is t dt date clock shown d k = sym (civil-shown dt date clock d k) ∙ sho
 
 pub local-is : (tz : TimeZone) (t r : Time) (dt : DateTime) (date : Date) (clock : Clock) (j : ℤ) → civil_nanos dt ≡ nanos_of_seconds t.seconds → dt.date ≡ date → dt.time ≡ clock
     → IsPicked tz (civil_of (epoch_day date) clock) j → r.seconds ≡ whole_seconds j → r.offset ≡ offset_at tz j → IsLocalTime tz t r
-local-is tz t r dt date clock j shown d k picked s o = record {
-  instant = j;
-  picked = subst (λ (n : ℤ). IsPicked tz n j) (civil-is t dt date clock shown d k) picked;
-  is = ap₂ (λ (a b : ℤ). record { seconds = a; offset = b }) s o;
-}
+local-is tz t r dt date clock j shown d k picked s o = grind (arith, civil-is)
 
 pub none-local : (tz : TimeZone) (t r : Time) (dt : DateTime) (date : Date) (clock : Clock) → civil_nanos dt ≡ nanos_of_seconds t.seconds → dt.date ≡ date → dt.time ≡ clock
     → ((j : ℤ) → ¬ (IsPicked tz (civil_of (epoch_day date) clock) j)) → IsLocalTime tz t r → ⊥

@@ -1,16 +1,15 @@
 -- No text is of two of the families before Git's own forms.
 use Rattle.std.proofs.Common.{◌≡◌, ◌∙◌, ◌≤◌, ◌+◌, ◌-◌, ◌*◌, ℕ, le_refl, zero, suc, drop, get_or, ℤ, Bool, true, false, cond, List, [], ◌∷◌, ◌++◌, length, refl, ap, sym, subst, Option, Some, None, is_some, filter, inl, inr, ◌⊎◌, append_assoc, option_map, arith}
 use Rattle.std.proofs.lemmas.Bool.Decides.{nat_tests}
-use Rattle.std.specs.Prelude.{◌==◌, ◌&&◌, nat_lt}
+use Rattle.std.specs.Prelude.{◌==◌, ◌&&◌}
 use Rattle.std.specs.Char.{is_ascii_digit, is_ascii_alphabetic}
 use Rattle.std.specs.Str.{all_ascii_digits}
-use Rattle.std.specs.Str.Parse.{without_leading_sign, signed_digits_value}
 use Rattle.gix_date.specs.Families.Answer.{FamilyAnswer, Absolute}
-use Rattle.gix_date.specs.Text.Characters.{at_sign, plus, minus, comma, colon, letter_t, is_space}
+use Rattle.gix_date.specs.Text.Characters.{at_sign, plus, minus, comma, letter_t, is_space}
 use Rattle.gix_date.specs.Families.Epoch.{at_time, epoch_time}
 use Rattle.gix_date.specs.Fields.FieldTexts.{IsField, IsYear, AreSpaces, IsDayName, IsPlainDate, IsDayPrefix}
 use Rattle.gix_date.specs.Text.Front.{skip_char, ◌>>=◌}
-use Rattle.gix_date.specs.Text.Numbers.{fits_i64, int_value, read_two_digits, read_digit, read_field, read_year}
+use Rattle.gix_date.specs.Text.Numbers.{int_value, read_two_digits, read_digit, read_field, read_year}
 use Rattle.gix_date.specs.Fields.DateFields.{skip_day_name, skip_spaces, read_name, skip_weekday, read_plain_date, read_clock, read_minutes}
 use Rattle.gix_date.specs.Families.Patterns.{gitoxide_layout, iso8601_layout, time_answer, short_answer, rfc2822_answer, iso8601_answer, iso8601_strict_answer, gitoxide_answer, default_answer}
 use Rattle.gix_date.proofs.Fields.FieldsRead.{Begins, BeginsNot, Excludes, begins-append, begins_not, digit-no-letter, letter-no-digit, space-no-digit, digit-no-space, field-begins, year-begins, name-begins, weekday-read, date-read}
@@ -44,10 +43,10 @@ unfolding read_field read_two_digits read_digit
 no-field [] h = refl
 no-field (c ∷ t) h = rw (no_pair c t h, h) refl
 
-pub no-weekday : (t : List ℕ) → BeginsNot is_ascii_alphabetic t → skip_weekday t ≡ None
+pub no_weekday : (t : List ℕ) → BeginsNot is_ascii_alphabetic t → skip_weekday t ≡ None
 unfolding skip_weekday read_name
-no-weekday (a ∷ b ∷ c ∷ t) h = rw h refl
-no-weekday t h = refl
+no_weekday (a ∷ b ∷ c ∷ t) h = rw h refl
+no_weekday t h = refl
 
 pub no-spaces : (t : List ℕ) → BeginsNot is_space t → skip_spaces t ≡ None
 unfolding skip_spaces
@@ -91,10 +90,7 @@ digit-no-minus c h = grind (arith, nat_tests, h)
 -- an int text that begins with a digit is digits
 pub int-digits : (c : ℕ) (t : List ℕ) (n : ℤ) → is_ascii_digit c ≡ true → int_value (c ∷ t) ≡ Some n
     → all_ascii_digits (c ∷ t) ≡ true
-int-digits c t n d e =
-    let parts = each_of (nat_lt 0 (length (without_leading_sign (c ∷ t)))) (all_ascii_digits (without_leading_sign (c ∷ t))) (fits_i64 (signed_digits_value 10 (c ∷ t))) (int-taken (c ∷ t) n e).0 in
-    let bare : without_leading_sign (c ∷ t) ≡ c ∷ t = rw (digit-no-minus c d, digit-no-plus c d) refl in
-    ap all_ascii_digits (sym bare) ∙ parts.1
+int-digits c t n d e = grind (arith, each_of, int-taken, digit-no-minus, digit-no-plus)
 
 pub no-epoch : (text : List ℕ) → int_value text ≡ None → epoch_time text ≡ None
 unfolding epoch_time
@@ -105,10 +101,7 @@ no-epoch-byte c t h = no-epoch (c ∷ t) (none-unless (int_value (c ∷ t)) (λ 
 
 pub no-epoch-digits : (front : List ℕ) (c : ℕ) (rest : List ℕ) → Begins is_ascii_digit front → is_ascii_digit c ≡ false → epoch_time (front ++ (c ∷ rest)) ≡ None
 no-epoch-digits [] c rest b h = absurd b
-no-epoch-digits (d ∷ front) c rest b h =
-    no-epoch (d ∷ (front ++ (c ∷ rest))) (none-unless (int_value (d ∷ (front ++ (c ∷ rest)))) (λ n e.
-    let clash : true ≡ false = sym (int-digits d (front ++ (c ∷ rest)) n b e) ∙ mixed (d ∷ front) c rest h in
-    cc))
+no-epoch-digits (d ∷ front) c rest b h = grind (arith, no-epoch, none-unless, int-digits, mixed)
 
 pub no-epoch-letter : (t : List ℕ) → Begins is_ascii_alphabetic t → epoch_time t ≡ None
 no-epoch-letter [] h = absurd h
@@ -117,7 +110,7 @@ no-epoch-letter (c ∷ t) h = no-epoch-byte c t (letter-no-number c h)
 -- no mail date begins with neither a letter nor a digit, nor with a year
 pub no-rfc2822-first : (t : List ℕ) → BeginsNot is_ascii_alphabetic t → BeginsNot is_ascii_digit t → rfc2822_answer t ≡ None
 unfolding rfc2822_answer skip_day_name
-no-rfc2822-first t l d = rw (no-weekday t l, no-field t d) refl
+no-rfc2822-first t l d = rw (no_weekday t l, no-field t d) refl
 
 pub pair_first : (a b c : ℕ) (rest : List ℕ) → is_ascii_digit a ≡ true → is_ascii_digit b ≡ true → is_ascii_digit c ≡ true → read_field (a ∷ b ∷ c ∷ rest) ≡ Some (10 * (a - 48) + (b - 48), c ∷ rest)
 unfolding read_field read_two_digits
@@ -125,12 +118,7 @@ pair_first a b c rest ha hb hc = rw (ha, hb) refl
 
 pub no-rfc2822-year : (year rest : List ℕ) (n : ℕ) → IsYear year n → rfc2822_answer (year ++ rest) ≡ None
 unfolding rfc2822_answer skip_day_name
-no-rfc2822-year (a ∷ b ∷ c ∷ d ∷ []) rest n h =
-    let text = a ∷ b ∷ c ∷ d ∷ rest in
-    let weekday : skip_weekday text ≡ None = no-weekday text (digit-no-letter a h.0) in
-    let field : read_field text ≡ Some (10 * (a - 48) + (b - 48), c ∷ d ∷ rest) = pair_first a b c (d ∷ rest) h.0 h.1 h.2 in
-    let gap : skip_spaces (c ∷ d ∷ rest) ≡ None = no-spaces (c ∷ d ∷ rest) (digit-no-space c h.2) in
-    rw (weekday, field, gap) refl
+no-rfc2822-year (a ∷ b ∷ c ∷ d ∷ []) rest n h = grind (arith, no_weekday, digit-no-letter, pair_first, no-spaces, digit-no-space)
 no-rfc2822-year year rest n h = absurd h
 
 -- what a text is not that begins with a plain date
@@ -145,7 +133,7 @@ after-plain day rest date h =
     let more = minus ∷ (h.month ++ (minus ∷ (h.day ++ rest))) in
     let split : day ++ rest ≡ h.year ++ more = rw h.whole (simp append_assoc) in
     let front = begins-append is_ascii_digit h.year more (year-begins h.year date.year h.is_year) in
-    let none = no-day (h.year ++ more) (no-weekday (h.year ++ more) (begins_not is_ascii_digit is_ascii_alphabetic (h.year ++ more) digit-no-letter front)) in
+    let none = no-day (h.year ++ more) (no_weekday (h.year ++ more) (begins_not is_ascii_digit is_ascii_alphabetic (h.year ++ more) digit-no-letter front)) in
     subst AfterPlainDate (sym split) (record {
       rfc2822 = no-rfc2822-year h.year more date.year h.is_year;
       gitoxide = none.gitoxide;
@@ -165,7 +153,7 @@ at-most-one (Some answer ∷ rest) alone = rw (alone 0 answer refl) (le_refl 1)
 
 -- a text that begins with the name of a day is no bare epoch
 named-no-epoch : (name rest text : List ℕ) → IsDayName name → text ≡ name ++ rest → epoch_time text ≡ None
-named-no-epoch name rest text h split = ap epoch_time split ∙ no-epoch-letter (name ++ rest) (begins-append is_ascii_alphabetic name rest (name-begins name h.0))
+named-no-epoch name rest text h split = grind (arith, no-epoch-letter, begins-append, name-begins)
 
 default-alone : (text : List ℕ) (answer : FamilyAnswer) → default_answer text ≡ Some answer → NoneFrom 7 text
 default-alone text answer e =
@@ -175,12 +163,7 @@ default-alone text answer e =
 -- no clock begins with a year
 no-clock-year : (year rest : List ℕ) (n : ℕ) → IsYear year n → read_clock (year ++ rest) ≡ None
 unfolding read_clock read_minutes skip_char
-no-clock-year (a ∷ b ∷ c ∷ d ∷ []) rest n h =
-    let no_colon : (c == colon) ≡ false = digit-no-colon c h.2 in
-    rw (pair_first a b c (d ∷ rest) h.0 h.1 h.2, no_colon) refl
-  where
-    digit-no-colon : Excludes is_ascii_digit (λ c. c == colon)
-    digit-no-colon c h = grind (arith, nat_tests, h)
+no-clock-year (a ∷ b ∷ c ∷ d ∷ []) rest n h = grind (arith, pair_first, nat_tests)
 no-clock-year year rest n h = absurd h
 
 year-no-clock : (g : LocalTime) (more other : List Piece) (x : List ℕ) (y : LocalTime) → read_pieces (Year ∷ more) g x ≡ Some y → read_pieces (Clock ∷ other) g x ≡ None
@@ -216,12 +199,7 @@ strict-alone text answer e =
 no-t : (gap rest : List ℕ) → AreSpaces gap → skip_char letter_t (gap ++ rest) ≡ None
 unfolding skip_char
 no-t [] rest h = absurd h
-no-t (c ∷ gap) rest h =
-    let other : (c == letter_t) ≡ false = space-no-t c h.0 in
-    rw other refl
-  where
-    space-no-t : Excludes is_space (λ c. c == letter_t)
-    space-no-t c h = grind (arith, nat_tests, h)
+no-t (c ∷ gap) rest h = grind (arith, nat_tests)
 
 spaces-no-t : (g : LocalTime) (more other : List Piece) (x : List ℕ) (y : LocalTime) → read_pieces (Spaces ∷ more) g x ≡ Some y → read_pieces (LetterT ∷ other) g x ≡ None
 spaces-no-t g more other x y e =
@@ -259,16 +237,13 @@ unfolding read_year
 no-year-field (a ∷ []) [] rest n h s = absurd s
 no-year-field (a ∷ []) (c ∷ gap) rest n h s = rw (no_pair_of a c (gap ++ rest) (space-no-digit c s.0)) refl
 no-year-field (a ∷ b ∷ []) [] rest n h s = absurd s
-no-year-field (a ∷ b ∷ []) (c ∷ gap) rest n h s = rw (pair_read a b (c ∷ (gap ++ rest)) h.0 h.1, no_pair c (gap ++ rest) (space-no-digit c s.0)) refl
+no-year-field (a ∷ b ∷ []) (c ∷ gap) rest n h s = grind (arith, pair_read, no_pair, space-no-digit)
 no-year-field day gap rest n h s = absurd h
 
 -- the name of a day and a comma
 no-day-comma : (name rest : List ℕ) → IsDayName name → NoDayFirst (name ++ (comma ∷ rest))
 unfolding gitoxide_answer default_answer
-no-day-comma name rest h =
-    let read = weekday-read name (comma ∷ rest) h in
-    let none = no-spaces (comma ∷ rest) refl in
-    record { gitoxide = rw (read, none) refl; default = rw (read, none) refl }
+no-day-comma name rest h = grind (arith, weekday-read, no-spaces)
 
 -- what no mail date is
 record NoOther (text : List ℕ) : Type 0 where
@@ -283,7 +258,7 @@ rfc2822-no-other prefix day (c ∷ gap) rest n (inl none) h s =
     let front = begins-append is_ascii_digit day (c ∷ (gap ++ rest)) (field-begins day n h) in
     subst (λ p. NoOther (p ++ text)) (sym none) (record {
       year = no-year-field day (c ∷ gap) rest n h s;
-      day = no-day text (no-weekday text (begins_not is_ascii_digit is_ascii_alphabetic text digit-no-letter front));
+      day = no-day text (no_weekday text (begins_not is_ascii_digit is_ascii_alphabetic text digit-no-letter front));
       epoch = no-epoch-digits day c (gap ++ rest) (field-begins day n h) (space-no-digit c s.0);
     })
 rfc2822-no-other prefix day (c ∷ gap) rest n (inr named) h s =
@@ -316,16 +291,10 @@ short-alone text answer e =
 
 pub at-first : (rule : OffsetRule) (text : List ℕ) (time : Time) → at_time rule text ≡ Some time → (rest : List ℕ) × (text ≡ at_sign ∷ rest)
 unfolding at_time
-at-first rule text time e =
-    let mark = went (skip_char at_sign text) _ time e in
-    (mark.0, after-taken at_sign text mark.0 mark.1)
+at-first rule text time e = grind (arith, went, after-taken)
 
 at-none : (rest : List ℕ) → NoneFrom 1 (at_sign ∷ rest)
-at-none rest =
-    let text = at_sign ∷ rest in
-    let plain = no-plain text (no-year text refl) in
-    let day = no-day text (no-weekday text refl) in
-    rw (plain.short, no-rfc2822-first text refl refl, plain.iso8601, plain.strict, day.gitoxide, day.default, no-epoch-byte at_sign rest refl) refl
+at-none rest = grind (arith, no-plain, no-year, no-day, no_weekday, no-rfc2822-first, no-epoch-byte)
 
 at-alone : (rule : OffsetRule) (text : List ℕ) (answer : FamilyAnswer) (found : Option Time) → at_time rule text ≡ found → option_map Absolute found ≡ Some answer → NoneFrom 1 text
 at-alone rule text answer None h e = absurd cc

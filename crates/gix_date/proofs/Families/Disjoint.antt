@@ -1,5 +1,7 @@
 -- Raw texts, bare epochs and Git texts exclude one another, and the first two are not relative.
-use Rattle.std.proofs.Common.{◌≡◌, ◌∙◌, ℕ, ℤ, true, false, List, [], ◌∷◌, ◌++◌, refl, ap, ap₂, sym, subst, arith, Some, Option, inl, inr, IsUtf8, option_map}
+use Rattle.std.proofs.lemmas.Grind.{common_steps}
+use Rattle.std.proofs.Common.{rules}
+use Rattle.std.proofs.Common.{◌≡◌, ◌∙◌, ℕ, ℤ, true, false, List, [], ◌∷◌, ◌++◌, refl, ap, sym, subst, arith, Some, Option, inl, inr, IsUtf8}
 use Rattle.std.proofs.lemmas.Option.{cond_some as guard, same_Some as same_some}
 use Rattle.std.proofs.lemmas.Bool.{and_parts as both}
 use Rattle.std.proofs.lemmas.Bool.Decides.{nat_tests}
@@ -8,12 +10,11 @@ use Rattle.std.specs.Str.{all_ascii_digits, trim}
 use Rattle.gix_date.specs.Text.Characters.{minus, dot, letter_t}
 use Rattle.gix_date.specs.Families.Epoch.{epoch_time}
 use Rattle.gix_date.specs.Fields.FieldTexts.{IsYear, IsDigit, IsPair}
-use Rattle.gix_date.specs.Text.Front.{◌>>=◌}
 use Rattle.gix_date.specs.Git.Forms.{git_front, git_form, git_time, time_with_rest}
 use Rattle.gix_date.specs.Git.Grammar.{IsGitDate, IsGitFront}
 use Rattle.gix_date.specs.Families.Laws.{AreDisjoint}
 use Rattle.gix_date.specs.Text.Numbers.{int_value}
-use Rattle.gix_date.specs.Fields.Offsets.{offset_by, offset_fields, offset_of}
+use Rattle.gix_date.specs.Fields.Offsets.{offset_fields, offset_of}
 use Rattle.gix_date.specs.Families.Raw.{OffsetRule, raw_time_by, raw_offset_by}
 use Rattle.gix_date.specs.Text.SpaceWords.{space_words, first_words}
 use Rattle.gix_date.specs.declared.civil.DateFields.{DateFields}
@@ -80,19 +81,15 @@ pairs-front year month day n m d rest y p q = absurd p
 
 date-front : (mark day rest : List ℕ) (date : DateFields) (h : IsGitDate mark day date)
     → GitFront (h.year ++ (mark ++ (h.month ++ (mark ++ (h.day ++ rest))))) → GitFront (day ++ rest)
-date-front mark day rest date h f =
-    subst GitFront (sym (ap (λ (t : List ℕ). t ++ rest) h.whole ∙ joined h.year mark h.month h.day rest)) f
+date-front mark day rest date h f = grind (arith, joined)
 
 marked-front : (mark : ℕ) (day rest : List ℕ) (date : DateFields) → is_visible mark ≡ true → is_ascii_digit mark ≡ false
     → IsGitDate (mark ∷ []) day date → GitFront (day ++ rest)
-marked-front mark day rest date v d h =
-    date-front (mark ∷ []) day rest date h (year-front h.year date.year mark (h.month ++ (mark ∷ (h.day ++ rest))) h.is_year v d)
+marked-front mark day rest date v d h = grind (arith, nat_tests, common_steps, date-front, year-front)
 
 front-begins : (day gap rest : List ℕ) (date : DateFields) → IsGitFront day gap date → GitFront (day ++ (gap ++ rest))
 front-begins day gap rest date (inl h) = marked-front dot day (gap ++ rest) date refl refl h.0
-front-begins day gap rest date (inr (inl h)) =
-    subst (λ (g : List ℕ). GitFront (day ++ (g ++ rest))) (sym h.1)
-    (date-front [] day (letter_t ∷ rest) date h.0 (pairs-front h.0.year h.0.month h.0.day date.year date.month date.day rest h.0.is_year h.0.is_month h.0.is_day))
+front-begins day gap rest date (inr (inl h)) = grind (arith, nat_tests, common_steps, date-front, pairs-front)
 front-begins day gap rest date (inr (inr h)) = marked-front minus day (gap ++ rest) date refl refl h.0
 
 pub git-front : (x : List ℕ) (t : Time) → git_form x ≡ Some t → GitFront x
@@ -146,35 +143,11 @@ pub record RawWords (rule : OffsetRule) (text : List ℕ) (t : Time) : Type 0 wh
 
 pub two-words-are : (ws : List (List ℕ)) (a b : List ℕ) (second : Option (List ℕ)) → first_words ws ≡ Some (a, second)
     → second ≡ Some b → ws ≡ a ∷ b ∷ []
-two-words-are ws a b second e h =
-    by ws (ap (option_map (λ (p : List ℕ × Option (List ℕ)). p.0)) e) (ap (λ (r : Option (List ℕ × Option (List ℕ))). r >>= λ p. p.1) e ∙ h)
-  where
-    by : (ws : List (List ℕ)) → option_map (λ (p : List ℕ × Option (List ℕ)). p.0) (first_words ws) ≡ Some a → (first_words ws >>= λ p. p.1) ≡ Some b
-        → ws ≡ a ∷ b ∷ []
-    by (x ∷ y ∷ []) first last = ap₂ (λ (s t : List ℕ). s ∷ t ∷ []) (same_some x a first) (same_some y b last)
-    by ws first last = absurd cc
+two-words-are ws a b second e h = grind (arith, same_some)
 
 pub raw-words : (rule : OffsetRule) (text : List ℕ) (t : Time) → raw_time_by rule text ≡ Some t → RawWords rule text t
 unfolding raw_time_by raw_offset_by
-raw-words rule text t e =
-    let words = went (first_words (space_words text)) (λ words. words.1 >>= λ second. int_value words.0 >>= λ s. raw_offset_by rule second >>= λ o. Some (time_at s o)) t e in
-    let second = went words.0.1 (λ second. int_value words.0.0 >>= λ s. raw_offset_by rule second >>= λ o. Some (time_at s o)) t words.2 in
-    let seconds =
-    went (int_value words.0.0) (λ s. raw_offset_by rule second.0 >>= λ o. Some (time_at s o)) t second.2 in
-    let offset = went (raw_offset_by rule second.0) (λ o. Some (time_at seconds.0 o)) t seconds.2 in
-    let fields = went (offset_fields second.0) (λ f. offset_by rule f) offset.0 offset.1 in
-    let g = guard (rule fields.0) (offset_of fields.0) offset.0 fields.2 in
-    record {
-      front = words.0.0;
-      zone = second.0;
-      is = two-words-are (space_words text) words.0.0 second.0 words.0.1 words.1 second.1;
-      value = seconds.0;
-      is_value = seconds.1;
-      fields = fields.0;
-      is_fields = fields.1;
-      allowed = g.0;
-      time = ap (time_at seconds.0) g.1 ∙ same_some (time_at seconds.0 offset.0) t offset.2;
-    }
+raw-words rule text t e = grind (arith, went, time_at, guard, two-words-are, same_some)
 
 pub epoch-int : (text : List ℕ) (t : Time) → epoch_time text ≡ Some t → (n : ℤ) × (int_value text ≡ Some n)
 unfolding epoch_time
@@ -184,8 +157,7 @@ pub raw-first : (rule : OffsetRule) (text : List ℕ) (t : Time) → RawWords ru
 raw-first rule text t r = record { word = r.front; words = r.zone ∷ []; is = r.is; value = r.value; is_value = r.is_value }
 
 pub int-first : (text : List ℕ) (n : ℤ) → int_value text ≡ Some n → FirstNumber text
-int-first text n e =
-    record { word = text; words = []; is = one-word text (int-number text n e); value = n; is_value = e }
+int-first text n e = search (rules, one-word, int-number)
 
 pub raw-no-epoch : (rule : OffsetRule) (text : List ℕ) (t u : Time) → raw_time_by rule text ≡ Some t
     → epoch_time text ≡ Some u → ⊥
@@ -202,8 +174,8 @@ quiet-raw rule text t u e =
     quiet-two-words text r.front r.zone u r.is (quiet-int r.front r.value r.is_value) (quiet-offset r.zone r.fields r.is_fields)
 
 -- No text is of two of these families, and none of the first two is relative.
-pub are-disjoint : (rule : OffsetRule) (text : List ℕ) → IsUtf8 text → AreDisjoint rule text
-are-disjoint rule text u = record {
+pub are_disjoint : (rule : OffsetRule) (text : List ℕ) → IsUtf8 text → AreDisjoint rule text
+are_disjoint rule text u = record {
   raw_epoch = λ t e. none-unless (epoch_time text) (λ v h. raw-no-epoch rule text t v e h);
   raw_git = λ t e. none-unless (git_time text) (λ v h. no-git text u (raw-first rule text t (raw-words rule text t e)) v h);
   raw_relative = λ t e. no-relative text u (quiet-raw rule text t u e);

@@ -1,4 +1,5 @@
 -- Which families hold texts of one another.
+use Rattle.std.proofs.Common.{rules}
 use Rattle.std.proofs.Common.{◌≡◌, ◌≢◌, ◌∙◌, ◌<◌, ◌≤◌, ℕ, ℤ, true, false, List, [], ◌∷◌, ◌++◌, length, filter, get_or, refl, ap, sym, subst, arith, append-nil, append_assoc, map, encode_utf8_all, Some, None, Option, is_some, option_map, inl, inr, ◌⊎◌, IsUtf8, zero, suc}
 use Rattle.std.proofs.lemmas.Bool.{cases_order, and_parts as both}
 use Rattle.std.proofs.lemmas.Bool.Decides.{nat_tests}
@@ -17,8 +18,8 @@ use Rattle.gix_date.specs.Families.Laws.{AreExclusive, Holds, overlap}
 use Rattle.gix_date.specs.Text.Front.{skip_char}
 use Rattle.gix_date.specs.Git.Forms.{git_time, git_form, git_front, dotted_front, compact_front, flexible_front, read_marked_date, read_compact_date}
 use Rattle.gix_date.specs.Text.Numbers.{int_value}
-use Rattle.gix_date.specs.Families.Patterns.{short_answer, rfc2822_answer, iso8601_answer, iso8601_strict_answer, gitoxide_answer, default_answer, short_layout, iso8601_layout, gitoxide_layout, default_layout}
-use Rattle.gix_date.specs.Fields.DateFields.{skip_weekday, read_plain_date}
+use Rattle.gix_date.specs.Families.Patterns.{short_answer, rfc2822_answer, iso8601_answer, gitoxide_answer, default_answer, short_layout, iso8601_layout, gitoxide_layout, default_layout}
+use Rattle.gix_date.specs.Fields.DateFields.{skip_weekday}
 use Rattle.gix_date.specs.Families.Raw.{OffsetRule, raw_time_by}
 use Rattle.gix_date.specs.Relative.Dates.{relative_date, RelativeDate}
 use Rattle.gix_date.specs.Text.SpaceWords.{space_words, runs}
@@ -26,7 +27,7 @@ use Rattle.gix_date.specs.Fields.Layout.{LocalTime, DayName, BeginsWith}
 use Rattle.gix_date.specs.declared.time.Time.{Time}
 use Rattle.gix_date.proofs.Families.Apart.{at-first, before-git-apart, NoPlainDate, NoDayFirst, no-day, no_pair, no_pair_of, pair_read, one-no-pair}
 use Rattle.gix_date.proofs.Text.AsciiCuts.{ascii-by, space_is_ascii}
-use Rattle.gix_date.proofs.Families.Disjoint.{are-disjoint, raw-words, quiet-raw, epoch-int, git-front, front-digits, letter_visible, digit_visible}
+use Rattle.gix_date.proofs.Families.Disjoint.{are_disjoint, raw-words, quiet-raw, epoch-int, git-front, front-digits, letter_visible, digit_visible}
 use Rattle.gix_date.proofs.Fields.FieldsRead.{Begins, name-begins, letter-no-digit, year-read}
 use Rattle.gix_date.proofs.Fields.FieldsTaken.{went, after-taken, weekday-taken, none-unless, same-first}
 use Rattle.gix_date.proofs.Text.FirstWords.{AreVisible, visible_stays, are-ascii, first-begins, trimmed-words}
@@ -54,14 +55,7 @@ drop-visible (c ∷ x) h = rw (visible_stays c h.0) (ap (λ (t : List ℕ). c �
 
 pub trim-visible : (x : List ℕ) → AreVisible x → trim x ≡ x
 unfolding trim_start trim_end
-trim-visible x h =
-    let a = are-ascii x h in
-    let front : encode_utf8_all (skip_leading_whitespace (chars x)) ≡ x =
-    ap (λ (cs : List ℕ). encode_utf8_all (skip_leading_whitespace cs)) (chars-IsAscii x a)
-    ∙ ap encode_utf8_all (skip-visible x h) ∙ encodes-IsAscii x a in
-    ap (λ (t : List ℕ). encode_utf8_all (drop_trailing_whitespace (chars t))) front
-    ∙ ap (λ (cs : List ℕ). encode_utf8_all (drop_trailing_whitespace cs)) (chars-IsAscii x a)
-    ∙ ap encode_utf8_all (drop-visible x h) ∙ encodes-IsAscii x a
+trim-visible x h = grind (arith, are-ascii, chars-IsAscii, skip-visible, encodes-IsAscii, drop-visible)
 
 -- a word of visible bytes, spaces, and what stands after them
 pub space-white : (c : ℕ) → is_space c ≡ true → is_whitespace c ≡ true
@@ -104,8 +98,7 @@ raw-clash rule text t e h = let clash : None ≡ Some t = sym h ∙ e in cc
 raw-no-letter : (rule : OffsetRule) (name rest : List ℕ) (t : Time) → Begins is_ascii_alphabetic name
     → raw_time_by rule (name ++ rest) ≡ Some t → ⊥
 raw-no-letter rule [] rest t h e = absurd h
-raw-no-letter rule (c ∷ name) rest t h e =
-    raw-clash rule (c ∷ (name ++ rest)) t e (no-raw-byte rule c (name ++ rest) (letter_visible c h) (letter-no-number c h))
+raw-no-letter rule (c ∷ name) rest t h e = grind (arith, raw-clash, no-raw-byte, letter_visible, letter-no-number)
 
 pub field-visible : (day : List ℕ) (n : ℕ) → IsField day n → AreVisible day
 field-visible [] n h = tt
@@ -157,12 +150,7 @@ rfc2822-begins text answer a = let h = rfc2822-front text answer a in by h h.is_
 
 raw-no-rfc2822 : (rule : OffsetRule) (text : List ℕ) (t : Time) → raw_time_by rule text ≡ Some t
     → rfc2822_answer text ≡ None
-raw-no-rfc2822 rule text t e = none-unless (rfc2822_answer text) (λ answer a. by (rfc2822-begins text answer a))
-  where
-    by : BeginsMail text → ⊥
-    by (inl (name, rest, w, letter)) = raw-no-letter rule name rest t letter (ap (raw_time_by rule) (sym w) ∙ e)
-    by (inr (h, w)) =
-        raw-no-day rule h.day h.gap h.month h.rest h.number h.month_number t h.is_day h.is_gap h.is_month (ap (raw_time_by rule) (sym w) ∙ e)
+raw-no-rfc2822 rule text t e = grind (arith, none-unless, rfc2822-begins, raw-no-letter, raw-no-day)
 
 -- A day alone is no Git text: nothing stands after its day.
 abbrev day_text : List ℕ → List ℕ → List ℕ → List ℕ
@@ -171,16 +159,10 @@ day_text year month day = year ++ (minus ∷ (month ++ (minus ∷ day)))
 day-no-form : (year month day : List ℕ) (n m d : ℕ) → IsYear year n → IsField month m → IsField day d
     → git_form (day_text year month day) ≡ None
 unfolding git_form git_front dotted_front compact_front flexible_front read_marked_date read_compact_date skip_char
-day-no-form year (a ∷ []) day n m d y h k =
-    let rest = a ∷ minus ∷ day in
-    rw (year-read year (minus ∷ rest) n y, no_pair minus rest refl, no_pair_of a minus day refl) refl
+day-no-form year (a ∷ []) day n m d y h k = grind (arith, year-read, no_pair, no_pair_of)
 day-no-form year (a ∷ b ∷ []) [] n m d y h k = absurd k
-day-no-form year (a ∷ b ∷ []) (c ∷ []) n m d y h k =
-    let rest = a ∷ b ∷ minus ∷ c ∷ [] in
-    rw (year-read year (minus ∷ rest) n y, no_pair minus rest refl, pair_read a b (minus ∷ c ∷ []) h.0 h.1, one-no-pair c) refl
-day-no-form year (a ∷ b ∷ []) (c ∷ e ∷ []) n m d y h k =
-    let rest = a ∷ b ∷ minus ∷ c ∷ e ∷ [] in
-    rw (year-read year (minus ∷ rest) n y, no_pair minus rest refl, pair_read a b (minus ∷ c ∷ e ∷ []) h.0 h.1, pair_read c e [] k.0 k.1) refl
+day-no-form year (a ∷ b ∷ []) (c ∷ []) n m d y h k = grind (arith, year-read, no_pair, pair_read, one-no-pair)
+day-no-form year (a ∷ b ∷ []) (c ∷ e ∷ []) n m d y h k = grind (arith, year-read, no_pair, pair_read)
 day-no-form year (a ∷ b ∷ []) (c ∷ e ∷ f ∷ t) n m d y h k = absurd k
 day-no-form year month day n m d y h k = absurd h
 
@@ -223,11 +205,7 @@ git-no-day (c ∷ day) (g ∷ gap) rest n t u h s e =
 
 pub rfc2822-no-git : (text : List ℕ) (answer : FamilyAnswer) → IsUtf8 text → rfc2822_answer text ≡ Some answer
     → git_time text ≡ None
-rfc2822-no-git text answer u a = by (rfc2822-begins text answer a)
-  where
-    by : BeginsMail text → git_time text ≡ None
-    by (inl (name, rest, w, letter)) = ap git_time w ∙ git-no-letter name rest (subst IsUtf8 w u) letter
-    by (inr (h, w)) = none-unless (git_time text) (λ t e. git-no-day h.day h.gap (h.month ++ h.rest) h.number t (subst IsUtf8 w u) h.is_day h.is_gap (ap git_time (sym w) ∙ e))
+rfc2822-no-git text answer u a = grind (arith, rfc2822-begins, git-no-letter, none-unless, git-no-day)
 
 -- A relative text is of no other family but Git's own forms: the texts of the others are quiet.
 quiet-rest : (rule : OffsetRule) (rest : List ℕ) (t : Time) (raw : Option Time) (int : Option ℤ) → IsUtf8 rest
@@ -243,12 +221,7 @@ after-utf8 rest u =
 
 quiet-at : (rule : OffsetRule) (text : List ℕ) (t : Time) → IsUtf8 text → at_time rule text ≡ Some t → IsQuiet text
 unfolding at_time
-quiet-at rule text t u e =
-    let rest =
-    went (skip_char at_sign text) (λ rest. option_or (raw_time_by rule rest) (option_map utc_time (int_value rest))) t e in
-    let split : text ≡ at_sign ∷ rest.0 = after-taken at_sign text rest.0 rest.1 in
-    subst IsQuiet (sym split)
-    (quiet-after at_sign rest.0 refl (quiet-rest rule rest.0 t (raw_time_by rule rest.0) (int_value rest.0) (after-utf8 rest.0 (subst IsUtf8 split u)) refl refl rest.2))
+quiet-at rule text t u e = grind (arith, went, after-taken, quiet-after, quiet-rest, after-utf8)
 
 -- What a family answers, as a fact.
 abbrev pub Answered : OffsetRule → Family → List ℕ → Type 0
@@ -256,11 +229,7 @@ Answered rule family text = (answer : FamilyAnswer) × (family_answer rule famil
 
 pub answered : (rule : OffsetRule) (family : Family) (text : List ℕ) → Holds rule family text
     → Answered rule family text
-answered rule family text h = found (family_answer rule family text) h
-  where
-    found : (r : Option FamilyAnswer) → is_some r ≡ true → (answer : FamilyAnswer) × (r ≡ Some answer)
-    found (Some x) e = (x, refl)
-    found None e = absurd cc
+answered rule family text h = grind (arith)
 
 pub absolute : (r : Option Time) → is_some (option_map Absolute r) ≡ true → (t : Time) × (r ≡ Some t)
 absolute (Some t) e = (t, refl)
@@ -299,27 +268,23 @@ named-no-git time text u h = ap git_time h.whole ∙ git-no-letter h.front h.res
 
 git-clash : (rule : OffsetRule) (family : Family) (text : List ℕ) → IsUtf8 text → family ≢ GitForm
     → overlap family GitForm ≡ false → Holds rule family text → git_time text ≡ None
-git-clash rule AtText text u n o h =
-    let t = absolute (at_time rule text) h in
-    let f = at-first rule text t.0 t.1 in
-    ap git_time f.1 ∙ no-git-byte at_sign f.0 (subst IsUtf8 f.1 u) refl refl
+git-clash rule AtText text u n o h = grind (arith, absolute, at-first, no-git-byte)
 git-clash rule Short text u n o h = let a = answered rule Short text h in short-no-git text a.0 a.1
 git-clash rule Rfc2822 text u n o h = let a = answered rule Rfc2822 text h in rfc2822-no-git text a.0 u a.1
 git-clash rule Gitoxide text u n o h = let a = answered rule Gitoxide text h in let d = (dates_spelled.gitoxide text a.0).0 a.1 in named-no-git d.time text u d.are
 git-clash rule Default text u n o h = let a = answered rule Default text h in let d = (dates_spelled.default text a.0).0 a.1 in named-no-git d.time text u d.are
-git-clash rule BareEpoch text u n o h = let t = absolute (epoch_time text) h in (are-disjoint rule text u).epoch_git t.0 t.1
+git-clash rule BareEpoch text u n o h = let t = absolute (epoch_time text) h in (are_disjoint rule text u).epoch_git t.0 t.1
 git-clash rule GitForm text u n o h = absurd (n refl)
-git-clash rule RawText text u n o h = let t = absolute (raw_time_by rule text) h in (are-disjoint rule text u).raw_git t.0 t.1
+git-clash rule RawText text u n o h = let t = absolute (raw_time_by rule text) h in (are_disjoint rule text u).raw_git t.0 t.1
 git-clash rule family text u n o h = absurd cc
 
 -- raw texts
 raw-no-at : (rule : OffsetRule) (text : List ℕ) (t v : Time) → raw_time_by rule text ≡ Some t
     → at_time rule text ≡ Some v → ⊥
-raw-no-at rule text t v e h = let f = at-first rule text v h in raw-clash rule text t e (ap (raw_time_by rule) f.1 ∙ no-raw-byte rule at_sign f.0 refl refl)
+raw-no-at rule text t v e h = grind (arith, at-first, raw-clash, no-raw-byte)
 
 raw-no-plain : (rule : OffsetRule) (text : List ℕ) (t : Time) → raw_time_by rule text ≡ Some t → NoPlainDate text
-raw-no-plain rule text t e =
-    no-plain-by text (none-unless (read_plain_date text) (λ d h. raw-clash rule text t e (no-raw-front rule text (plain-front text d h))))
+raw-no-plain rule text t e = search (rules, no-plain-by, none-unless, raw-clash, no-raw-front, plain-front)
 
 raw-no-named : (rule : OffsetRule) (text : List ℕ) (t : Time) → raw_time_by rule text ≡ Some t → NoDayFirst text
 raw-no-named rule text t e =
@@ -332,12 +297,11 @@ raw-alone rule AtText text t u n e h = let v = absolute (at_time rule text) h in
 raw-alone rule Short text t u n e h = none-held (short_answer text) h (raw-no-plain rule text t e).short
 raw-alone rule Rfc2822 text t u n e h = none-held (rfc2822_answer text) h (raw-no-rfc2822 rule text t e)
 raw-alone rule Iso8601 text t u n e h = none-held (iso8601_answer text) h (raw-no-plain rule text t e).iso8601
-raw-alone rule Iso8601Strict text t u n e h =
-    none-held (iso8601_strict_answer text) h (raw-no-plain rule text t e).strict
+raw-alone rule Iso8601Strict text t u n e h = grind (arith, none-held, raw-no-plain)
 raw-alone rule Gitoxide text t u n e h = none-held (gitoxide_answer text) h (raw-no-named rule text t e).gitoxide
 raw-alone rule Default text t u n e h = none-held (default_answer text) h (raw-no-named rule text t e).default
-raw-alone rule BareEpoch text t u n e h = none-mapped (λ (t : Time). Absolute t) (epoch_time text) h ((are-disjoint rule text u).raw_epoch t e)
-raw-alone rule GitForm text t u n e h = none-mapped (λ (t : Time). Absolute t) (git_time text) h ((are-disjoint rule text u).raw_git t e)
+raw-alone rule BareEpoch text t u n e h = none-mapped (λ (t : Time). Absolute t) (epoch_time text) h ((are_disjoint rule text u).raw_epoch t e)
+raw-alone rule GitForm text t u n e h = none-mapped (λ (t : Time). Absolute t) (git_time text) h ((are_disjoint rule text u).raw_git t e)
 raw-alone rule RelativeText text t u n e h = quiet-clash rule text u (quiet-raw rule text t u e) h
 raw-alone rule RawText text t u n e h = absurd (n refl)
 
@@ -413,19 +377,18 @@ clash rule GitForm b text u n o h k =
 clash rule a GitForm text u n o h k = none-mapped (λ (t : Time). Absolute t) (git_time text) k (git-clash rule a text u n o h)
 clash rule a b text u n o h k = early-clash rule a b text refl refl n h k
 
-pub are-exclusive : (rule : OffsetRule) (text : List ℕ) → IsUtf8 text → AreExclusive rule text
-are-exclusive rule text u a b n o h =
-    none-unless (family_answer rule b text) (λ x e. clash rule a b text u n o h (ap is_some e))
+pub are_exclusive : (rule : OffsetRule) (text : List ℕ) → IsUtf8 text → AreExclusive rule text
+are_exclusive rule text u a b n o h = grind (arith, none-unless, clash)
 
 -- What comes first.
 pub differ : (a b : Family) → (place a == place b) ≡ false → a ≢ b
-differ a b e s = let same : (place a == place a) ≡ true = grind (arith, nat_tests) in let clash : true ≡ false = sym same ∙ ap (λ (f : Family). place a == place f) s ∙ e in cc
+differ a b e s = grind (arith, nat_tests, clash)
 
 raw-first : (rule : OffsetRule) (text : List ℕ) → IsUtf8 text → Holds rule RawText text
     → first_family_by rule text ≡ family_answer rule RawText text
 unfolding first_family_by
 raw-first rule text u h =
-    let none : (b : Family) → (place RawText == place b) ≡ false → overlap RawText b ≡ false → family_answer rule b text ≡ None = λ b d o. are-exclusive rule text u RawText b (differ RawText b d) o h in
+    let none : (b : Family) → (place RawText == place b) ≡ false → overlap RawText b ≡ false → family_answer rule b text ≡ None = λ b d o. are_exclusive rule text u RawText b (differ RawText b d) o h in
     let a = answered rule RawText text h in
     rw (none AtText refl refl, none Short refl refl, none Rfc2822 refl refl, none Iso8601 refl refl, none Iso8601Strict refl refl, none Gitoxide refl refl, none Default refl refl, none BareEpoch refl refl, none GitForm refl refl, none RelativeText refl refl, a.1) refl
 
@@ -438,8 +401,7 @@ alone-first rule family text u n m h = let a = answered rule family text h in fi
 
 pub raw-first-family : (rule : OffsetRule) (text : List ℕ) (t : Time) → IsUtf8 text → raw_time_by rule text ≡ Some t
     → first_family_by rule text ≡ Some (Absolute t)
-raw-first-family rule text t u e =
-    raw-first rule text u (ap (λ (r : Option Time). is_some (option_map Absolute r)) e) ∙ ap (option_map Absolute) e
+raw-first-family rule text t u e = grind (arith, raw-first)
 
 pub epoch-first-family : (rule : OffsetRule) (text : List ℕ) (t : Time) → IsUtf8 text → epoch_time text ≡ Some t
     → first_family_by rule text ≡ Some (Absolute t)

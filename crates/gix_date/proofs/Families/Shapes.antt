@@ -1,15 +1,15 @@
 -- The first family that holds a text is one of its shape's: no other family holds a text of that shape.
-use Rattle.std.proofs.Common.{◌≡◌, ◌∙◌, ℕ, ℤ, Bool, true, false, cond, List, [], ◌∷◌, ◌++◌, drop, refl, ap, sym, subst, arith, Option, Some, None, is_some, option_map, inl, inr, ◌⊎◌, IsUtf8}
+use Rattle.std.proofs.Common.{rules}
+use Rattle.std.proofs.Common.{◌≡◌, ◌∙◌, ℕ, ℤ, Bool, true, false, cond, List, [], ◌∷◌, ◌++◌, drop, refl, ap, sym, subst, arith, Option, Some, None, is_some, inl, inr, ◌⊎◌, IsUtf8}
 use Rattle.std.proofs.lemmas.Bool.{and_parts as both}
 use Rattle.std.proofs.lemmas.Bool.Decides.{nat_tests}
 use Rattle.std.specs.Char.{is_ascii_digit, is_ascii_alphabetic}
 use Rattle.std.specs.Prelude.{◌==◌, ◌&&◌, ◌||◌, if◌then◌else◌}
 use Rattle.std.specs.Int.Signed.{le_z}
-use Rattle.std.specs.Option.{option_or}
 use Rattle.gix_date.specs.Families.Answer.{Absolute}
 use Rattle.gix_date.specs.Text.Characters.{at_sign, comma, minus, dot, space, is_space, letter_t}
 use Rattle.gix_date.specs.Families.Order.{AtText, Short, Rfc2822, Iso8601, Iso8601Strict, Gitoxide, Default, BareEpoch, GitForm, RelativeText, RawText, first_family_by}
-use Rattle.gix_date.specs.Fields.DateFields.{is_weekday, read_name, read_plain_date, skip_day_name, skip_weekday}
+use Rattle.gix_date.specs.Fields.DateFields.{read_name, read_plain_date, skip_day_name, skip_weekday}
 use Rattle.gix_date.specs.Fields.FieldTexts.{IsField, IsYear, AreSpaces, IsMonthName}
 use Rattle.gix_date.specs.Text.Front.{skip_char}
 use Rattle.gix_date.specs.Text.Numbers.{int_value, read_field}
@@ -18,10 +18,10 @@ use Rattle.gix_date.specs.Families.Epoch.{at_time, epoch_time, min_bare_epoch, u
 use Rattle.gix_date.specs.Git.Forms.{git_time}
 use Rattle.gix_date.specs.Families.Raw.{OffsetRule, raw_time_by}
 use Rattle.gix_date.specs.Families.Shapes.{are_two_digits, are_four_digits, begins_with_at, begins_with_letter, begins_with_year, begins_with_dashed_day, begins_with_dotted_day, begins_with_compact_day, begins_with_count, letter_shape, shape_of, shape_families, first_among, IsDispatched, row_families, IsInItsRow}
-use Rattle.gix_date.specs.declared.parsing.shape.Shape.TheVariants.{AtSign, Rfc2822Day, NamedDay, Word, DashedDay, GitDay, Count, WholeNumber, Other}
-use Rattle.gix_date.proofs.Families.Apart.{NoPlainDate, NoDayFirst, no-day, no-field, no-rfc2822-first, no-rfc2822-year, no-plain, no-spaces, no-weekday, no-year, digit-no-minus, no-epoch}
+use Rattle.gix_date.specs.declared.parsing.shape.Shape.TheVariants.{AtSign, Rfc2822Day, NamedDay, Word, WholeNumber}
+use Rattle.gix_date.proofs.Families.Apart.{NoPlainDate, NoDayFirst, no-day, no-field, no-rfc2822-first, no-rfc2822-year, no-plain, no-spaces, no_weekday, no-year, digit-no-minus, no-epoch}
 use Rattle.gix_date.proofs.Families.Disjoint.{GitFront, year-front, compact-year, raw-words, int-first, no-git, letter_visible, number-no-front}
-use Rattle.gix_date.proofs.Families.Exclusive.{BeginsMail, rfc2822-begins, git-no-day}
+use Rattle.gix_date.proofs.Families.Exclusive.{rfc2822-begins, git-no-day}
 use Rattle.gix_date.proofs.Fields.FieldsRead.{Begins, BeginsNot, begins-append, digit-no-letter, letter-no-digit}
 use Rattle.gix_date.proofs.Text.FirstWords.{is_visible}
 use Rattle.gix_date.proofs.Text.FirstBytes.{no-raw-front, no-raw-byte, no-git-byte, no-plain-by, plain-front, plain-year}
@@ -38,8 +38,8 @@ no-at rule (c ∷ rest) h = rw h refl
 
 no-names : (text : List ℕ) → begins_with_letter text ≡ false → NoDayFirst text
 unfolding begins_with_letter
-no-names [] h = no-day [] (no-weekday [] tt)
-no-names (c ∷ rest) h = no-day (c ∷ rest) (no-weekday (c ∷ rest) h)
+no-names [] h = no-day [] (no_weekday [] tt)
+no-names (c ∷ rest) h = no-day (c ∷ rest) (no_weekday (c ∷ rest) h)
 
 letter-so : (text : List ℕ) → Begins is_ascii_alphabetic text → begins_with_letter text ≡ true
 unfolding begins_with_letter
@@ -66,43 +66,18 @@ record NoNumber (rule : OffsetRule) (text : List ℕ) : Type 0 where
 
 no-number : (rule : OffsetRule) (c : ℕ) (rest : List ℕ) → IsUtf8 (c ∷ rest) → is_visible c ≡ true → is_number_byte c ≡ false → is_ascii_digit c ≡ false
     → NoNumber rule (c ∷ rest)
-no-number rule c rest u v n d = record {
-  epoch = no-epoch (c ∷ rest) (none-unless (int_value (c ∷ rest)) (λ k e. int-no-byte c rest k n e));
-  git = no-git-byte c rest u v d;
-  raw = no-raw-byte rule c rest v n;
-}
+no-number rule c rest u v n d = grind (arith, no-epoch, none-unless, int-no-byte, no-git-byte, no-raw-byte)
 
 at-dispatched : (rule : OffsetRule) (text : List ℕ) → IsUtf8 text → begins_with_at text ≡ true
     → first_family_by rule text ≡ first_among rule (shape_families AtSign) text
 unfolding begins_with_at first_family_by
 at-dispatched rule [] u h = absurd cc
-at-dispatched rule (c ∷ rest) u h =
-    let same : c ≡ at_sign = grind (arith, nat_tests, h) in
-    subst (λ (c : ℕ). IsUtf8 (c ∷ rest) → first_family_by rule (c ∷ rest) ≡ first_among rule (shape_families AtSign) (c ∷ rest)) (sym same) by u
-  where
-    text : List ℕ
-    text = at_sign ∷ rest
-
-    by : IsUtf8 text → first_family_by rule text ≡ first_among rule (shape_families AtSign) text
-    by u =
-        let plain = no-plain text (no-year text refl) in
-        let names = no-day text (no-weekday text refl) in
-        let number = no-number rule at_sign rest u refl refl refl in
-        rw (plain.short, plain.iso8601, plain.strict, no-rfc2822-first text refl refl, names.gitoxide, names.default, number.epoch, number.git, number.raw) refl
+at-dispatched rule (c ∷ rest) u h = grind (arith, nat_tests, no-plain, no-year, no-day, no_weekday, no-number, no-rfc2822-first)
 
 -- A text that begins with a letter: its fourth byte decides which dates it can be.
 weekday-or : (text : List ℕ) → (skip_weekday text ≡ None) ⊎ (skip_weekday text ≡ Some (drop 3 text))
 unfolding skip_weekday read_name
-weekday-or (a ∷ b ∷ c ∷ rest) = by (is_ascii_alphabetic a && is_ascii_alphabetic b && is_ascii_alphabetic c) (is_weekday (a ∷ b ∷ c ∷ [])) refl refl
-  where
-    text : List ℕ
-    text = a ∷ b ∷ c ∷ rest
-
-    by : (p q : Bool) → (is_ascii_alphabetic a && is_ascii_alphabetic b && is_ascii_alphabetic c) ≡ p → is_weekday (a ∷ b ∷ c ∷ []) ≡ q
-        → (skip_weekday text ≡ None) ⊎ (skip_weekday text ≡ Some rest)
-    by true true g h = inr (rw (g, h) refl)
-    by true false g h = inl (rw (g, h) refl)
-    by false q g h = inl (rw g refl)
+weekday-or (a ∷ b ∷ c ∷ rest) = grind (arith)
 weekday-or text = inl refl
 
 no-comma : (text : List ℕ) → read_field text ≡ None → skip_char comma (drop 3 text) ≡ None → rfc2822_answer text ≡ None
@@ -111,9 +86,7 @@ no-comma text f h = elim (weekday-or text) [ inl w ↦ rw (w, f) refl | inr w �
 
 no-space : (text : List ℕ) → BeginsNot is_space (drop 3 text) → NoDayFirst text
 unfolding gitoxide_answer default_answer
-no-space text h =
-    let none = no-spaces (drop 3 text) h in
-    elim (weekday-or text) [ inl w ↦ no-day text w | inr w ↦ record { gitoxide = rw (w, none) refl; default = rw (w, none) refl } ]
+no-space text h = grind (arith, no-spaces, weekday-or, no-day)
 
 record Lettered (rule : OffsetRule) (text : List ℕ) : Type 0 where
   pub at : at_time rule text ≡ None
@@ -124,47 +97,27 @@ record Lettered (rule : OffsetRule) (text : List ℕ) : Type 0 where
 lettered : (rule : OffsetRule) (text : List ℕ) → IsUtf8 text → begins_with_at text ≡ false → begins_with_letter text ≡ true → Lettered rule text
 unfolding begins_with_letter
 lettered rule [] u n h = absurd cc
-lettered rule (c ∷ rest) u n h =
-    let digit = letter-no-digit c h in
-    record {
-      at = no-at rule (c ∷ rest) n;
-      dates = no-plain (c ∷ rest) (no-year (c ∷ rest) digit);
-      field = no-field (c ∷ rest) digit;
-      number = no-number rule c rest u (letter_visible c h) (letter-no-number c h) digit;
-    }
+lettered rule (c ∷ rest) u n h = search (rules, letter-no-digit, no-at, no-plain, no-year, no-field, no-number, letter_visible, letter-no-number)
 
 rfc2822-dispatched : (rule : OffsetRule) (text : List ℕ) → Lettered rule text → BeginsNot is_space (drop 3 text)
     → first_family_by rule text ≡ first_among rule (shape_families Rfc2822Day) text
 unfolding first_family_by
-rfc2822-dispatched rule text l h =
-    let names = no-space text h in
-    rw (l.at, l.dates.short, l.dates.iso8601, l.dates.strict, names.gitoxide, names.default, l.number.epoch, l.number.git, l.number.raw) refl
+rfc2822-dispatched rule text l h = grind (arith, no-space)
 
 named-dispatched : (rule : OffsetRule) (text : List ℕ) → Lettered rule text → skip_char comma (drop 3 text) ≡ None
     → first_family_by rule text ≡ first_among rule (shape_families NamedDay) text
 unfolding first_family_by
-named-dispatched rule text l h =
-    rw (l.at, l.dates.short, no-comma text l.field h, l.dates.iso8601, l.dates.strict, l.number.epoch, l.number.git, l.number.raw) refl
+named-dispatched rule text l h = grind (arith, no-comma)
 
 word-dispatched : (rule : OffsetRule) (text : List ℕ) → Lettered rule text → skip_char comma (drop 3 text) ≡ None → BeginsNot is_space (drop 3 text)
     → first_family_by rule text ≡ first_among rule (shape_families Word) text
 unfolding first_family_by
-word-dispatched rule text l h k =
-    let names = no-space text k in
-    rw (l.at, l.dates.short, no-comma text l.field h, l.dates.iso8601, l.dates.strict, names.gitoxide, names.default, l.number.epoch, l.number.git, l.number.raw) refl
+word-dispatched rule text l h k = grind (arith, no-space, no-comma)
 
 letter-dispatched : (rule : OffsetRule) (text : List ℕ) → Lettered rule text
     → first_family_by rule text ≡ first_among rule (shape_families (letter_shape text)) text
 unfolding letter_shape skip_char
-letter-dispatched rule (a ∷ b ∷ c ∷ d ∷ rest) l = by (d == comma) (d == space) refl refl
-  where
-    text : List ℕ
-    text = a ∷ b ∷ c ∷ d ∷ rest
-
-    by : (m s : Bool) → (d == comma) ≡ m → (d == space) ≡ s → first_family_by rule text ≡ first_among rule (shape_families (cond m Rfc2822Day (cond s NamedDay Word))) text
-    by true s e f = rfc2822-dispatched rule text l (grind (arith, nat_tests, e))
-    by false true e f = named-dispatched rule text l (rw e refl)
-    by false false e f = word-dispatched rule text l (rw e refl) f
+letter-dispatched rule (a ∷ b ∷ c ∷ d ∷ rest) l = grind (arith, rfc2822-dispatched, nat_tests, named-dispatched, word-dispatched)
 letter-dispatched rule text l = word-dispatched rule text l refl tt
 
 -- A text that begins with a year is no mail date, number or raw text if a visible byte ends its first digits.
@@ -177,19 +130,11 @@ int-no-front : (text : List ℕ) (n : ℤ) → int_value text ≡ Some n → Git
 int-no-front text n e g = number-no-front text text (int-first text n e) g refl
 
 after-year : (rule : OffsetRule) (year rest : List ℕ) (n : ℕ) → IsYear year n → GitFront (year ++ rest) → AfterYear rule (year ++ rest)
-after-year rule year rest n y g = record {
-  rfc2822 = no-rfc2822-year year rest n y;
-  epoch = no-epoch (year ++ rest) (none-unless (int_value (year ++ rest)) (λ k e. int-no-front (year ++ rest) k e g));
-  raw = no-raw-front rule (year ++ rest) g;
-}
+after-year rule year rest n y g = grind (arith, no-rfc2822-year, no-epoch, none-unless, int-no-front, no-raw-front)
 
 four-are : (a b c d : ℕ) → are_four_digits a b c d ≡ true
     → (is_ascii_digit a ≡ true) × (is_ascii_digit b ≡ true) × (is_ascii_digit c ≡ true) × (is_ascii_digit d ≡ true)
-four-are a b c d h =
-    let halves = both (are_two_digits a b) (are_two_digits c d) h in
-    let one = both (is_ascii_digit a) (is_ascii_digit b) halves.0 in
-    let two = both (is_ascii_digit c) (is_ascii_digit d) halves.1 in
-    (one.0, one.1, two.0, two.1)
+four-are a b c d h = grind (arith, both)
 
 after-mark : (rule : OffsetRule) (a b c d mark : ℕ) (rest : List ℕ) → are_four_digits a b c d ≡ true → is_visible mark ≡ true → is_ascii_digit mark ≡ false
     → AfterYear rule (a ∷ b ∷ c ∷ d ∷ mark ∷ rest)
@@ -272,10 +217,7 @@ space-no-number c h = grind (arith, nat_tests, h)
 
 int-no-gap : (front gap rest : List ℕ) (n : ℤ) → AreSpaces gap → int_value (front ++ (gap ++ rest)) ≡ Some n → ⊥
 int-no-gap front [] rest n s e = absurd s
-int-no-gap front (g ∷ gap) rest n s e =
-    let k = int-number (front ++ (g ∷ (gap ++ rest))) n e in
-    let no : true ≡ false = sym (gap-in front (gap ++ rest) g (subst AreNumberBytes (sym k.whole) k.bytes)) ∙ space-no-number g s.0 in
-    cc
+int-no-gap front (g ∷ gap) rest n s e = grind (arith, int-number, gap-in, space-no-number)
 
 pub int-no-raw : (rule : OffsetRule) (text : List ℕ) (n : ℤ) → int_value text ≡ Some n → raw_time_by rule text ≡ None
 int-no-raw rule text n i = none-unless (raw_time_by rule text) (λ t e. (
@@ -290,12 +232,7 @@ record CountFirst (text : List ℕ) : Type 0 where
   pub int : int_value text ≡ None
 
 count-by : (count gap rest : List ℕ) (n : ℕ) → IsUtf8 (count ++ (gap ++ rest)) → IsField count n → AreSpaces gap → CountFirst (count ++ (gap ++ rest))
-count-by count gap rest n u f s =
-    let text = count ++ (gap ++ rest) in
-    record {
-      git = none-unless (git_time text) (λ t e. git-no-day count gap rest n t u f s e);
-      int = none-unless (int_value text) (λ k e. int-no-gap count gap rest k s e);
-    }
+count-by count gap rest n u f s = grind (arith, none-unless, git-no-day, int-no-gap)
 
 count-first : (text : List ℕ) → IsUtf8 text → begins_with_count text ≡ true → CountFirst text
 unfolding begins_with_count
@@ -316,23 +253,11 @@ count-so day [] month rest n m f s k = absurd s
 count-so day gap [] rest n m f s k = absurd k.0
 count-so (a ∷ []) (g ∷ []) (l ∷ month) rest n m f s k = rw (f.0, s.0) refl
 count-so (a ∷ []) (g ∷ h ∷ gap) (l ∷ month) rest n m f s k = rw (f.0, s.0) refl
-count-so (a ∷ b ∷ []) (g ∷ gap) (l ∷ month) rest n m f s k = second (b == space)
-  where
-    second : (q : Bool) → (is_ascii_digit a && (q || is_ascii_digit b && g == space)) ≡ true
-    second true = rw f.0 refl
-    second false = rw (f.0, f.1, s.0) refl
+count-so (a ∷ b ∷ []) (g ∷ gap) (l ∷ month) rest n m f s k = grind (arith)
 count-so (a ∷ b ∷ c ∷ day) gap month rest n m f s k = absurd f
 
 no-rfc2822 : (text : List ℕ) → begins_with_letter text ≡ false → begins_with_count text ≡ false → rfc2822_answer text ≡ None
-no-rfc2822 text l c = none-unless (rfc2822_answer text) (λ answer a. by (rfc2822-begins text answer a))
-  where
-    by : BeginsMail text → ⊥
-    by (inl (name, rest, w, letter)) =
-        let no : true ≡ false = sym (letter-so text (subst (Begins is_ascii_alphabetic) (sym w) (begins-append is_ascii_alphabetic name rest letter))) ∙ l in
-        cc
-    by (inr (h, w)) =
-        let no : true ≡ false = sym (ap begins_with_count w ∙ count-so h.day h.gap h.month h.rest h.number h.month_number h.is_day h.is_gap h.is_month) ∙ c in
-        cc
+no-rfc2822 text l c = grind (arith, none-unless, rfc2822-begins, letter-so, begins-append, count-so)
 
 -- A number alone is a bare epoch, or no family holds it.
 no-count : (text : List ℕ) (n : ℤ) → IsUtf8 text → int_value text ≡ Some n → (b : Bool) → begins_with_count text ≡ b → b ≡ false
@@ -363,36 +288,9 @@ int-dispatched rule text n u e =
     rw (no-at rule text (number-no-at text bytes), dates.short, rfc2822, dates.iso8601, dates.strict, names.gitoxide, names.default, git, no-relative text u (quiet-int text n e), int-no-raw rule text n e) refl
 
 -- Each shape, by the tests of `shape_of` in their order.
-pub is-dispatched : (rule : OffsetRule) (text : List ℕ) → IsUtf8 text → IsDispatched rule text
+pub is_dispatched : (rule : OffsetRule) (text : List ℕ) → IsUtf8 text → IsDispatched rule text
 unfolding shape_of first_family_by
-is-dispatched rule text u =
-    by (begins_with_at text) (begins_with_letter text) (begins_with_year text) (begins_with_dotted_day text || begins_with_compact_day text) (begins_with_count text) (int_value text) refl refl refl refl refl refl
-  where
-    by : (a l y d c : Bool) (i : Option ℤ) → begins_with_at text ≡ a → begins_with_letter text ≡ l → begins_with_year text ≡ y
-        → (begins_with_dotted_day text || begins_with_compact_day text) ≡ d → begins_with_count text ≡ c → int_value text ≡ i
-        → first_family_by rule text
-        ≡ first_among rule (shape_families (cond a AtSign (cond l (letter_shape text) (cond y DashedDay (cond d GitDay (cond c Count (cond (is_some i) WholeNumber Other))))))) text
-    by true l y d c i ea el ey ed ec ei = at-dispatched rule text u ea
-    by false true y d c i ea el ey ed ec ei = letter-dispatched rule text (lettered rule text u ea el)
-    by false false true d c i ea el ey ed ec ei =
-        let names = no-names text el in
-        let after = dashed-after rule text ey in
-        rw (no-at rule text ea, after.rfc2822, names.gitoxide, names.default, after.epoch, after.raw) refl
-    by false false false true c i ea el ey ed ec ei =
-        let names = no-names text el in
-        let dates = no-dates text ey in
-        let after = (git-day rule text ed).after in
-        rw (no-at rule text ea, dates.short, after.rfc2822, dates.iso8601, dates.strict, names.gitoxide, names.default, after.epoch, after.raw) refl
-    by false false false false true i ea el ey ed ec ei =
-        let names = no-names text el in
-        let dates = no-dates text ey in
-        let count = count-first text u ec in
-        rw (no-at rule text ea, dates.short, dates.iso8601, dates.strict, names.gitoxide, names.default, no-epoch text count.int, count.git) refl
-    by false false false false false (Some n) ea el ey ed ec ei = int-dispatched rule text n u ei
-    by false false false false false None ea el ey ed ec ei =
-        let names = no-names text el in
-        let dates = no-dates text ey in
-        rw (no-at rule text ea, dates.short, no-rfc2822 text el ec, dates.iso8601, dates.strict, names.gitoxide, names.default, no-epoch text ei) refl
+is_dispatched rule text u = grind (arith, at-dispatched, letter-dispatched, lettered, no-names, dashed-after, no-at, no-dates, git-day, count-first, no-epoch, int-dispatched, no-rfc2822)
 
 -- The seven rows, by their tests.
 dashed-first : (text : List ℕ) → begins_with_dashed_day text ≡ true → DayFirst true text
@@ -408,15 +306,11 @@ dashed-first text h = absurd cc
 git-day-row : (rule : OffsetRule) (text : List ℕ) → begins_with_at text ≡ false → DayOfGit rule text
     → first_family_by rule text ≡ first_among rule (GitForm ∷ RelativeText ∷ []) text
 unfolding first_family_by
-git-day-row rule text ea day =
-    let names = no-names text day.first.letter in
-    let dates = no-dates text day.first.marked in
-    let after = day.after in
-    rw (no-at rule text ea, dates.short, after.rfc2822, dates.iso8601, dates.strict, names.gitoxide, names.default, after.epoch, after.raw) refl
+git-day-row rule text ea day = grind (arith, no-names, no-dates, no-at)
 
-pub is-in-its-row : (rule : OffsetRule) (text : List ℕ) → IsUtf8 text → IsInItsRow rule text
+pub is_in_its_row : (rule : OffsetRule) (text : List ℕ) → IsUtf8 text → IsInItsRow rule text
 unfolding row_families first_family_by
-is-in-its-row rule text u =
+is_in_its_row rule text u =
     by (begins_with_at text) (int_value text) (begins_with_dashed_day text) (begins_with_dotted_day text) (begins_with_compact_day text) (begins_with_letter text) refl refl refl refl refl refl
   where
     by : (a : Bool) (i : Option ℤ) (s d k l : Bool) → begins_with_at text ≡ a → int_value text ≡ i → begins_with_dashed_day text ≡ s
@@ -445,14 +339,10 @@ is-in-its-row rule text u =
 pub number-first : (rule : OffsetRule) (text : List ℕ) (n : ℤ) → IsUtf8 text → int_value text ≡ Some n
     → first_family_by rule text ≡ (if le_z min_bare_epoch n then Some (Absolute (utc_time n)) else None)
 unfolding epoch_time
-number-first rule text n u e = int-dispatched rule text n u e ∙ rw e (by (le_z min_bare_epoch n))
-  where
-    by : (b : Bool) → option_or (option_map Absolute (cond b (Some (utc_time n)) None)) None ≡ cond b (Some (Absolute (utc_time n))) None
-    by true = refl
-    by false = refl
+number-first rule text n u e = grind (arith, int-dispatched)
 
 -- the time of an at text that is a number after its `@`
-pub at-int : (rule : OffsetRule) (text rest : List ℕ) (n : ℤ) → skip_char at_sign text ≡ Some rest → int_value rest ≡ Some n
+pub at_int : (rule : OffsetRule) (text rest : List ℕ) (n : ℤ) → skip_char at_sign text ≡ Some rest → int_value rest ≡ Some n
     → at_time rule text ≡ Some (utc_time n)
 unfolding at_time
-at-int rule text rest n s e = rw (s, int-no-raw rule rest n e, e) refl
+at_int rule text rest n s e = rw (s, int-no-raw rule rest n e, e) refl

@@ -1,5 +1,5 @@
 -- Canonical headers as nearly all are, by their bytes.
-use Rattle.std.proofs.Common.{◌≡◌, ◌∙◌, ◌+◌, ◌-◌, ◌*◌, ◌<◌, ◌^◌, ℕ, Bool, true, false, List, [], ◌∷◌, ◌++◌, length, take, drop, get_or, refl, ap, ap₂, sym, Some, arith, pos}
+use Rattle.std.proofs.Common.{◌≡◌, ◌∙◌, ◌+◌, ◌-◌, ◌*◌, ◌<◌, ◌^◌, ℕ, Bool, true, false, List, [], ◌∷◌, ◌++◌, length, take, drop, refl, ap, ap₂, sym, Some, arith, pos}
 use Rattle.std.proofs.lemmas.Bool.{and_parts as both, false_from_ne_true as false-unless}
 use Rattle.std.proofs.lemmas.Bool.Decides.{nat_tests}
 use Rattle.std.proofs.lemmas.Fmt.{decimal-digits_value}
@@ -19,7 +19,7 @@ use Rattle.gix_date.specs.Text.Numbers.{int_value, read_two_digits}
 use Rattle.gix_date.proofs.Header.HeaderLaws.{canonical-parts, decimal-test, front-of, after-of, number-bytes}
 use Rattle.gix_date.proofs.Text.Ints.{own}
 use Rattle.gix_date.proofs.Fast.FastHeaders.{int-number}
-use Rattle.gix_date.proofs.Text.ShortDigits.{bare-int}
+use Rattle.gix_date.proofs.Text.ShortDigits.{bare_int}
 use Rattle.gix_date.specs.Header.CanonicalBytes.{are_usual_seconds, are_hours_and_minutes, is_usual_offset}
 use Rattle.gix_date.proofs.Git.ClockParts.{all_digits as same-digits}
 
@@ -40,7 +40,7 @@ usual-seconds (c ∷ ds) h =
     let digits : all_ascii_digits (c ∷ ds) ≡ true = ap₂ (λ (a b : Bool). a && b) parts.0 (sym (same-digits ds) ∙ parts.3) in
     let short : length ds < 18 = grind (arith, nat_tests, parts.2) in
     let small : digits_value 10 (c ∷ ds) < 10 ^ 18 = digits_value_short own (c ∷ ds) 18 digits (omega (arith, short)) in
-    let int = bare-int (c ∷ ds) (digits_value 10 (c ∷ ds)) (omega arith) digits refl small in
+    let int = bare_int (c ∷ ds) (digits_value 10 (c ∷ ds)) (omega arith) digits refl small in
     let written = decimal-digits_value own (c ∷ ds) digits (omega arith) (λ z. absurd (grind (arith, nat_tests, parts.1, z))) (omega (arith, small)) in
     record { is_int = int; is_decimal = decimal-test (c ∷ ds) (pos (digits_value 10 (c ∷ ds))) int written }
 
@@ -49,32 +49,19 @@ five true true true true true h = (refl, refl, refl, refl, refl)
 five a b c d e h = absurd cc
 
 minutes-below : (c d : ℕ) → is_ascii_digit c ≡ true → nat_lt c (digit_zero + 6) ≡ true → is_ascii_digit d ≡ true → nat_lt (10 * (c - 48) + (d - 48)) 60 ≡ true
-minutes-below c d p q r =
-    let tens : c < 54 = grind (arith, nat_tests, q) in
-    let ones : d < 58 = grind (arith, nat_tests, r) in
-    let below : 10 * (c - 48) + (d - 48) < 60 = omega (arith, tens, ones) in
-    grind (arith, nat_tests, below)
+minutes-below c d p q r = grind (arith, nat_tests)
 
 ahead : (a b c d : ℕ) → are_hours_and_minutes a b c d ≡ true → is_canonical_offset (plus ∷ a ∷ b ∷ c ∷ d ∷ []) ≡ true
 unfolding offset_fields read_sign skip_char read_two_digits last_pair
-ahead a b c d h =
-    let p = five (is_ascii_digit a) (is_ascii_digit b) (is_ascii_digit c) (nat_lt c (digit_zero + 6)) (is_ascii_digit d) h in
-    rw (p.0, p.1, p.2, p.4, minutes-below c d p.2 p.3 p.4) refl
+ahead a b c d h = grind (arith, five, minutes-below)
 
 not-zero : (a b c d : ℕ) → not ((a == digit_zero) && (b == digit_zero)) ≡ true → bytes_eq (minus ∷ a ∷ b ∷ c ∷ d ∷ []) (codes "-0000") ≡ false
-not-zero a b c d h = false-unless _ (λ yes.
-    let same : minus ∷ a ∷ b ∷ c ∷ d ∷ [] ≡ codes "-0000" = (bytes_eq-Decides (minus ∷ a ∷ b ∷ c ∷ d ∷ []) (codes "-0000")).0 yes in
-    let first : a ≡ 48 = ap (λ (t : List ℕ). get_or t 1 0) same in
-    let second : b ≡ 48 = ap (λ (t : List ℕ). get_or t 2 0) same in
-    let clash : false ≡ true = rw (first, second) at h in
-    absurd cc)
+not-zero a b c d h = grind (arith, false-unless, bytes_eq-Decides)
 
 -- an offset behind UTC
 behind : (a b c d : ℕ) → are_hours_and_minutes a b c d ≡ true → not ((a == digit_zero) && (b == digit_zero)) ≡ true → is_canonical_offset (minus ∷ a ∷ b ∷ c ∷ d ∷ []) ≡ true
 unfolding offset_fields read_sign skip_char read_two_digits last_pair
-behind a b c d h some =
-    let p = five (is_ascii_digit a) (is_ascii_digit b) (is_ascii_digit c) (nat_lt c (digit_zero + 6)) (is_ascii_digit d) h in
-    rw (p.0, p.1, p.2, p.4, minutes-below c d p.2 p.3 p.4, not-zero a b c d some) refl
+behind a b c d h some = grind (arith, five, minutes-below, not-zero)
 
 -- a space, and such an offset
 pub record IsOffsetBehindSpace (text : List ℕ) : Type 0 where
@@ -84,31 +71,17 @@ pub record IsOffsetBehindSpace (text : List ℕ) : Type 0 where
 
 by-sign : (sign a b c d : ℕ) → are_hours_and_minutes a b c d ≡ true
     → ((sign == plus) || (sign == minus) && not ((a == digit_zero) && (b == digit_zero))) ≡ true → is_canonical_offset (sign ∷ a ∷ b ∷ c ∷ d ∷ []) ≡ true
-by-sign sign a b c d h k = by-tests (sign == plus) (sign == minus) refl refl
-  where
-    by-tests : (p m : Bool) → (sign == plus) ≡ p → (sign == minus) ≡ m → is_canonical_offset (sign ∷ a ∷ b ∷ c ∷ d ∷ []) ≡ true
-    by-tests true m e f =
-        let is : sign ≡ plus = grind (arith, nat_tests, e) in
-        rw is (ahead a b c d h)
-    by-tests false true e f =
-        let is : sign ≡ minus = grind (arith, nat_tests, f) in
-        rw is (behind a b c d h (rw (e, f) at k))
-    by-tests false false e f = let clash : false ≡ true = rw (e, f) at k in absurd cc
+by-sign sign a b c d h k = grind (arith, nat_tests, ahead, behind)
 
 usual-offset : (text : List ℕ) → is_usual_offset text ≡ true → IsOffsetBehindSpace text
 unfolding is_usual_offset
-usual-offset (x ∷ s ∷ a ∷ b ∷ c ∷ d ∷ []) h =
-    let sign : Bool = (s == plus) || (s == minus) && not ((a == digit_zero) && (b == digit_zero)) in
-    let parts = both ((x == space) && are_hours_and_minutes a b c d) sign h in
-    let marked = both (x == space) (are_hours_and_minutes a b c d) parts.0 in
-    let is : x ≡ space = grind (arith, nat_tests, marked.0) in
-    record { zone = s ∷ a ∷ b ∷ c ∷ d ∷ []; whole = rw is refl; canonical = by-sign s a b c d marked.1 parts.1 }
+usual-offset (x ∷ s ∷ a ∷ b ∷ c ∷ d ∷ []) h = grind (arith, both, nat_tests, by-sign)
 usual-offset text h = absurd cc
 
 -- such seconds and such an offset are a canonical header
-pub usual-canonical : (text front back : List ℕ) (n : ℕ) → front ≡ take n text → back ≡ drop n text → are_usual_seconds front ≡ true → is_usual_offset back ≡ true
+pub usual_canonical : (text front back : List ℕ) (n : ℕ) → front ≡ take n text → back ≡ drop n text → are_usual_seconds front ≡ true → is_usual_offset back ≡ true
     → is_canonical_header text ≡ true
-usual-canonical text front back n e f h k =
+usual_canonical text front back n e f h k =
     let seconds = usual-seconds front h in
     let offset = usual-offset back k in
     let bytes = number-bytes front (int-number front (pos (digits_value 10 front)) seconds.is_int) in

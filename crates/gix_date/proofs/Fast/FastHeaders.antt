@@ -6,7 +6,7 @@ use Rattle.std.proofs.lemmas.Bool.Decides.{nat_tests}
 use Rattle.std.proofs.lemmas.Str.{chars-IsAscii, encodes-IsAscii, IsAscii-append}
 use Rattle.std.proofs.lemmas.Str.Ascii.{IsAscii-nil, IsAscii-cons}
 use Rattle.std.specs.Char.{is_whitespace, is_ascii_alphabetic, is_ascii_digit}
-use Rattle.std.specs.Prelude.{◌==◌, ◌||◌, ◌&&◌, nat_lt, cond, ◌-◌, ◌*◌, encode_utf8_all}
+use Rattle.std.specs.Prelude.{◌==◌, ◌||◌, ◌&&◌, cond, ◌-◌, ◌*◌, encode_utf8_all}
 use Rattle.std.specs.Str.{chars, NonePass, all_ascii_digits}
 use Rattle.std.specs.Str.Parse.{without_leading_sign, signed_digits_value}
 use Rattle.std.specs.Option.{option_or}
@@ -14,7 +14,7 @@ use Rattle.std.proofs.lemmas.List.Folds.{list_any-append}
 use Rattle.gix_date.specs.Fields.FieldTexts.{IsPair, IsSign, IsDigit}
 use Rattle.gix_date.specs.Text.Characters.{space, plus, minus, is_colon, has_colon}
 use Rattle.gix_date.specs.Text.Front.{skip_char, ◌>>=◌}
-use Rattle.gix_date.specs.Text.Numbers.{fits_i64, is_int_text, int_value, read_two_digits}
+use Rattle.gix_date.specs.Text.Numbers.{is_int_text, int_value, read_two_digits}
 use Rattle.gix_date.specs.Fields.Offsets.{read_sign, last_pair, offset_fields, offset_of}
 use Rattle.gix_date.specs.Header.Reading.{header_seconds, header_offset, time_of_words, header_time, IsUsualHeader}
 use Rattle.gix_date.specs.declared.parsing.offset.Sign.{Sign}
@@ -87,19 +87,13 @@ pub record IsNumber (w : List ℕ) : Type 0 where
 
 pub int-number : (w : List ℕ) (n : ℤ) → int_value w ≡ Some n → IsNumber w
 int-number [] n e = let h = (int-taken [] n e).0 in absurd cc
-int-number (c ∷ t) n e =
-    let parts = each_of (nat_lt 0 (length (without_leading_sign (c ∷ t)))) (all_ascii_digits (without_leading_sign (c ∷ t))) (fits_i64 (signed_digits_value 10 (c ∷ t))) (int-taken (c ∷ t) n e).0 in
-    record { first = c; rest = t; whole = refl; bytes = after_sign c t (c == minus) (c == plus) refl refl parts.1 }
+int-number (c ∷ t) n e = grind (arith, each_of, int-taken, after_sign)
 
 pub letter-no-number : (c : ℕ) → is_ascii_alphabetic c ≡ true → is_number_byte c ≡ false
 letter-no-number c h = grind (arith, nat_tests, h)
 
 pub int-no-byte : (c : ℕ) (t : List ℕ) (n : ℤ) → is_number_byte c ≡ false → int_value (c ∷ t) ≡ Some n → ⊥
-int-no-byte c t n h e =
-    let k = int-number (c ∷ t) n e in
-    let same : c ≡ k.first = same-first c k.first t k.rest k.whole in
-    let clash : true ≡ false = sym k.bytes.0 ∙ ap is_number_byte (sym same) ∙ h in
-    cc
+int-no-byte c t n h e = grind (arith, int-number, same-first)
 
 pub record TookSign (x : List ℕ) (s : Sign) (rest : List ℕ) : Type 0 where
   pub mark : ℕ
@@ -108,12 +102,8 @@ pub record TookSign (x : List ℕ) (s : Sign) (rest : List ℕ) : Type 0 where
 
 sign_from : (x : List ℕ) (a b : Option (List ℕ)) (s : Sign) (rest : List ℕ) → skip_char plus x ≡ a → skip_char minus x ≡ b
     → option_or (option_map {U = Sign × List ℕ} (λ r. (Plus, r)) a) (option_map {U = Sign × List ℕ} (λ r. (Minus, r)) b) ≡ Some (s, rest) → TookSign x s rest
-sign_from x (Some r) b s rest e f h =
-    let found : (Plus, r) ≡ (s, rest) = cc in
-    record { mark = plus; is_mark = inl (refl, sym (ap (λ (p : Sign × List ℕ). p.0) found)); whole = after-taken plus x r e ∙ ap (λ (p : Sign × List ℕ). plus ∷ p.1) found }
-sign_from x None (Some r) s rest e f h =
-    let found : (Minus, r) ≡ (s, rest) = cc in
-    record { mark = minus; is_mark = inr (refl, sym (ap (λ (p : Sign × List ℕ). p.0) found)); whole = after-taken minus x r f ∙ ap (λ (p : Sign × List ℕ). minus ∷ p.1) found }
+sign_from x (Some r) b s rest e f h = grind (arith, after-taken)
+sign_from x None (Some r) s rest e f h = grind (arith, after-taken)
 sign_from x None None s rest e f h = absurd cc
 
 pub sign-taken : (x : List ℕ) (s : Sign) (rest : List ℕ) → read_sign x ≡ Some (s, rest) → TookSign x s rest
@@ -132,8 +122,7 @@ pub record TookLast (x : List ℕ) (seconds : Option ℕ) : Type 0 where
   pub is : ((x ≡ []) × (seconds ≡ None)) ⊎ ((n : ℕ) × IsPair x n × (seconds ≡ Some n))
 
 last_from : (a b : ℕ) (p q : Bool) (seconds : Option ℕ) → is_ascii_digit a ≡ p → is_ascii_digit b ≡ q → option_map {U = Option ℕ} (λ n. Some n) (cond (p && q) (Some (10 * (a - 48) + (b - 48))) None) ≡ Some seconds → TookLast (a ∷ b ∷ []) seconds
-last_from a b true true seconds e f h =
-    record { bytes = (digit_is a e, (digit_is b f, tt)); none = λ n. absurd cc; digits = rw (e, f) refl; is = inr (10 * (a - 48) + (b - 48), (e, f, refl), sym (same_some _ seconds h)) }
+last_from a b true true seconds e f h = grind (arith, digit_is, same_some)
 last_from a b p q seconds e f h = absurd cc
 
 pub last-taken : (x : List ℕ) (seconds : Option ℕ) → last_pair x ≡ Some seconds → TookLast x seconds
@@ -170,23 +159,7 @@ fields_at sign h m s = record { sign = sign; hours = h; minutes = m; seconds = s
 pub offset-by : (gap : List ℕ) (IsLast : List ℕ → Option ℕ → Type 0) (x after_sign after_hours rest last : List ℕ) (f : OffsetFields)
     → (a : TookSign x f.sign after_sign) → TookTwo after_sign f.hours after_hours → after_hours ≡ gap ++ rest → TookTwo rest f.minutes last
     → IsLast last f.seconds → IsOffsetBy gap IsLast x f
-offset-by gap IsLast x after_sign after_hours rest last f a b e c d = record {
-  mark = a.mark;
-  h0 = b.tens;
-  h1 = b.ones;
-  m0 = c.tens;
-  m1 = c.ones;
-  last = last;
-  whole = a.whole ∙ ap (λ (t : List ℕ). a.mark ∷ t) (b.whole ∙ ap (λ (t : List ℕ). b.tens ∷ b.ones ∷ t) (e ∙ ap (λ (t : List ℕ). gap ++ t) c.whole));
-  is_mark = a.is_mark;
-  is_h0 = b.is_tens;
-  is_h1 = b.is_ones;
-  hours = b.value;
-  is_m0 = c.is_tens;
-  is_m1 = c.is_ones;
-  minutes = c.value;
-  is_last = d;
-}
+offset-by gap IsLast x after_sign after_hours rest last f a b e c d = grind (arith)
 
 pub offset-taken : (x : List ℕ) (f : OffsetFields) → offset_fields x ≡ Some f → IsOffsetText x f
 unfolding offset_fields
@@ -237,33 +210,23 @@ plain_of front zone n f a b e h =
 pub usual-header : (front zone : List ℕ) (n : ℤ) (f : OffsetFields) → int_value front ≡ Some n → offset_fields zone ≡ Some f → header_time (front ++ (space ∷ zone)) ≡ Some (record { seconds = n; offset = offset_of f })
 usual-header front zone n f e h = plain_of front zone n f (int-number front n e) (offset-number zone f h) e h
 
-pub plain-time : (text : List ℕ) (n : ℤ) (f : OffsetFields) → IsUsualHeader text n f → header_time text ≡ Some (record { seconds = n; offset = offset_of f })
-plain-time text n f h = ap header_time h.whole ∙ usual-header h.front h.zone n f h.is_seconds h.are_fields
+pub plain_time : (text : List ℕ) (n : ℤ) (f : OffsetFields) → IsUsualHeader text n f → header_time text ≡ Some (record { seconds = n; offset = offset_of f })
+plain_time text n f h = ap header_time h.whole ∙ usual-header h.front h.zone n f h.is_seconds h.are_fields
 
 -- such a text by places
 pub plain-places : (text : List ℕ) (place : ℕ) (n : ℤ) (f : OffsetFields) → place < length text → get_or text place 0 ≡ space → int_value (take place text) ≡ Some n → offset_fields (drop (place + 1) text) ≡ Some f
     → IsUsualHeader text n f
-plain-places text place n f within mark e h =
-    record {
-      front = take place text;
-      zone = drop (place + 1) text;
-      whole = sym (take-append-drop place text) ∙ ap (λ (t : List ℕ). take place text ++ t) (drop-cons text place 0 within ∙ rw (mark, add-one place) refl);
-      is_seconds = e;
-      are_fields = h;
-    }
+plain-places text place n f within mark e h = grind (arith, take-append-drop, drop-cons, add-one)
 
 -- the two words of such a text
 pub plain-words : (text : List ℕ) (n : ℤ) (f : OffsetFields) (h : IsUsualHeader text n f) → space_words text ≡ h.front ∷ h.zone ∷ []
-plain-words text n f h =
-    let a = int-number h.front n h.is_seconds in
-    let b = offset-number h.zone f h.are_fields in
-    ap space_words h.whole ∙ rw (a.whole, b.whole) (two-words a.first b.first a.rest b.rest a.bytes b.bytes)
+plain-words text n f h = grind (arith, int-number, offset-number, two-words)
 
 -- the raw time of one, where the rule allows its fields
-pub plain-raw : (rule : OffsetRule) (text : List ℕ) (n : ℤ) (f : OffsetFields) → IsUsualHeader text n f → rule f ≡ true
+pub plain_raw : (rule : OffsetRule) (text : List ℕ) (n : ℤ) (f : OffsetFields) → IsUsualHeader text n f → rule f ≡ true
     → raw_time_by rule text ≡ Some (record { seconds = n; offset = offset_of f })
 unfolding raw_time_by raw_offset_by
-plain-raw rule text n f h q = rw (plain-words text n f h, h.is_seconds, h.are_fields, q) refl
+plain_raw rule text n f h q = rw (plain-words text n f h, h.is_seconds, h.are_fields, q) refl
 
 -- the words of a number alone
 pub one-word : (w : List ℕ) → IsNumber w → space_words w ≡ w ∷ []

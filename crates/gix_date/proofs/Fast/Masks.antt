@@ -42,16 +42,16 @@ bits-of xs ys room space =
     ap (λ ms. mask_l ms % 2 ^ 64) (tops_compared w8 eqb (take 16 xs) (take 16 ys)) ∙ mask_l-mod (zip2 eqb (take 16 xs) (take 16 ys)) 64 (omega (arith, long, length-take-le 16 xs room))
 
 -- they are equal iff all those bits are set
-pub alike-from : (xs ys : List ℕ) → 16 ≤ length xs → 16 ≤ length ys → equal_bits xs ys ≡ 65535 → take 16 xs ≡ take 16 ys
-alike-from xs ys room space e =
+pub alike_from : (xs ys : List ℕ) → 16 ≤ length xs → 16 ≤ length ys → equal_bits xs ys ≡ 65535 → take 16 xs ≡ take 16 ys
+alike_from xs ys room space e =
     let a = length-take-le 16 xs room in
     let b = length-take-le 16 ys space in
     let lanes = zip2 eqb (take 16 xs) (take 16 ys) in
     let long = length-zip2 eqb (take 16 xs) (take 16 ys) (omega (arith, a, b)) in
     all-equal (take 16 xs) (take 16 ys) 16 a b (masks-tell lanes (replicate 16 true) (long ∙ a) (sym (bits-of xs ys room space) ∙ e))
 
-pub alike-to : (xs ys : List ℕ) → 16 ≤ length xs → 16 ≤ length ys → take 16 xs ≡ take 16 ys → equal_bits xs ys ≡ 65535
-alike-to xs ys room space e =
+pub alike_to : (xs ys : List ℕ) → 16 ≤ length xs → 16 ≤ length ys → take 16 xs ≡ take 16 ys → equal_bits xs ys ≡ 65535
+alike_to xs ys room space e =
     bits-of xs ys room space ∙ ap (λ (t : List ℕ). mask_l (zip2 eqb (take 16 xs) t)) (sym e) ∙ ap (λ (ms : List Bool). mask_l ms) (equal-all (take 16 xs) 16 (length-take-le 16 xs room))
 
 -- what stands from a place on, as a range of a slice says it
@@ -62,9 +62,9 @@ whole-rest : (xs : List ℕ) (i : ℕ) → last_of xs i ≡ drop i xs
 whole-rest xs i = take_all (length xs - i) (drop i xs) (omega (arith, length-drop i xs))
 
 -- texts of 16 to 32 bytes whose first 16 are the same and whose last 16 are
-pub ends-tell : (xs ys : List ℕ) (n : ℕ) → length xs ≡ n → length ys ≡ n → 16 ≤ n → n ≤ 32
+pub ends_tell : (xs ys : List ℕ) (n : ℕ) → length xs ≡ n → length ys ≡ n → 16 ≤ n → n ≤ 32
     → take 16 xs ≡ take 16 ys → take 16 (last_of xs (n - 16)) ≡ take 16 (last_of ys (n - 16)) → xs ≡ ys
-ends-tell xs ys n l m low high first last =
+ends_tell xs ys n l m low high first last =
     let back : drop (n - 16) xs ≡ drop (n - 16) ys =
     sym (take_all 16 (drop (n - 16) xs) (omega (arith, length-drop (n - 16) xs, l))) ∙ ap (λ (t : List ℕ). take 16 t) (sym (whole-rest xs (n - 16))) ∙ last ∙ ap (λ (t : List ℕ). take 16 t) (whole-rest ys (n - 16)) ∙ take_all 16 (drop (n - 16) ys) (omega (arith, length-drop (n - 16) ys, m)) in
     let at : n - 16 + (32 - n) ≡ 16 = omega (arith, low, high) in

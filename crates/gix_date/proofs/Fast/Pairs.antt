@@ -1,5 +1,5 @@
 -- Pairs of digits, several at once.
-use Rattle.std.proofs.Common.{◌≡◌, ◌∙◌, ℕ, ◌+◌, ◌-◌, ◌*◌, ◌/◌, ◌<◌, ◌≤◌, ◌%◌, ◌^◌, Bool, true, false, ◌&&◌, cond, leb, leb-false, List, [], ◌∷◌, map, length, take, drop, drop-cons, get_or, replicate, refl, sym, ap, subst, arith, Some, Fits, w8, suc, zero}
+use Rattle.std.proofs.Common.{◌≡◌, ◌∙◌, ℕ, ◌+◌, ◌-◌, ◌*◌, ◌/◌, ◌<◌, ◌≤◌, ◌%◌, ◌^◌, Bool, true, false, cond, leb, leb-false, List, [], ◌∷◌, map, length, drop-cons, get_or, replicate, refl, sym, ap, subst, arith, Some, Fits, w8, suc, zero}
 use Rattle.std.proofs.lemmas.Bool.{and_parts as both}
 use Rattle.std.proofs.lemmas.Bool.Decides.{nat_tests}
 use Rattle.std.proofs.lemmas.List.{length-map, get_or-map, get_or-take}
@@ -58,24 +58,15 @@ abbrev pub numbers_in : ℕ → ℕ → List ℕ → List ℕ
 numbers_in n h bytes = map weighted (digits_l 65536 h (number_l 256 (lanes n bytes)))
 
 two-lanes : (ds : List ℕ) (i : ℕ) → i + 1 < length ds → number_l 256 (chunk i 2 ds) ≡ get_or ds i 0 + 256 * get_or ds (i + 1) 0
-two-lanes ds i within =
-    let next : suc i ≡ i + 1 = omega arith in
-    let cut : drop i ds ≡ get_or ds i 0 ∷ get_or ds (i + 1) 0 ∷ drop (suc (i + 1)) ds =
-    drop-cons ds i 0 (omega (arith, within)) ∙ ap (λ (k : ℕ). get_or ds i 0 ∷ drop k ds) next ∙ ap (λ (t : List ℕ). get_or ds i 0 ∷ t) (drop-cons ds (i + 1) 0 within) in
-    ap (λ (t : List ℕ). number_l 256 (take 2 t)) cut ∙ omega arith
+two-lanes ds i within = grind (arith, drop-cons)
 
 weigh : (a b : ℕ) → is_ascii_digit a ≡ true → is_ascii_digit b ≡ true → weighted (lane_of a + 256 * lane_of b) ≡ 10 * (a - 48) + (b - 48)
-weigh a b p q =
-    let low : (48 ≤ a) × (a ≤ 57) = grind (arith, nat_tests, p) in
-    let high : (48 ≤ b) × (b ≤ 57) = grind (arith, nat_tests, q) in
-    let first : lane_of a ≡ a - 48 = omega (arith, low) in
-    let second : lane_of b ≡ b - 48 = omega (arith, high) in
-    omega (arith, low, high, first, second)
+weigh a b p q = grind (arith, nat_tests)
 
 -- the number of a pair of digits
-pub pair-at : (n h : ℕ) (bytes : List ℕ) (k : ℕ) → n ≤ length bytes → k < h → 2 * k + 1 < n
+pub pair_of_digits : (n h : ℕ) (bytes : List ℕ) (k : ℕ) → n ≤ length bytes → k < h → 2 * k + 1 < n
     → is_ascii_digit (get_or bytes (2 * k) 0) ≡ true → is_ascii_digit (get_or bytes (2 * k + 1) 0) ≡ true → IsPairAt bytes (numbers_in n h bytes) k
-pair-at n h bytes k room l within first second =
+pair_of_digits n h bytes k room l within first second =
     let i = 2 * k in
     let block = chunk 0 n bytes in
     let ds = map lane_of block in
@@ -97,11 +88,11 @@ pair-at n h bytes k room l within first second =
     many (suc h) x = ap suc (many h (x / 65536))
 
 -- the first four pairs of bytes of which none is no digit
-pub four-at : (bytes : List ℕ) → 8 ≤ length bytes → ((k : ℕ) → Fits w8 (get_or bytes k 0)) → other_bits 8 bytes ≡ 0 → ArePairs 4 bytes (numbers_in 8 4 bytes)
-four-at bytes room fits e k l =
+pub four_at : (bytes : List ℕ) → 8 ≤ length bytes → ((k : ℕ) → Fits w8 (get_or bytes k 0)) → other_bits 8 bytes ≡ 0 → ArePairs 4 bytes (numbers_in 8 4 bytes)
+four_at bytes room fits e k l =
     let none : mask_l (map is_other (chunk 0 8 bytes)) ≡ 0 = sym (other-bits 8 bytes room (omega arith)) ∙ e in
     let each = λ (i : ℕ) (within : i < 8). digit (get_or bytes i 0) (fits i).fits (none_from_empty_mask is_other bytes 0 8 0 (omega (arith, room)) none i (omega arith) (omega (arith, within))) in
-    pair-at 8 4 bytes k room l (omega (arith, l)) (each (2 * k) (omega (arith, l))) (each (2 * k + 1) (omega (arith, l)))
+    pair_of_digits 8 4 bytes k room l (omega (arith, l)) (each (2 * k) (omega (arith, l))) (each (2 * k + 1) (omega (arith, l)))
 
 -- what a pair's number says of its digits
 pub record IsPairOf (a b n : ℕ) : Type 0 where
@@ -111,13 +102,7 @@ pub record IsPairOf (a b n : ℕ) : Type 0 where
   pub small : n < 100
 
 pub pair-of : (a b n : ℕ) → two_digit_value a b ≡ Some n → IsPairOf a b n
-pair-of a b n e =
-    let h = cond_some (is_ascii_digit a && is_ascii_digit b) (10 * (a - 48) + (b - 48)) n e in
-    let parts = both (is_ascii_digit a) (is_ascii_digit b) h.0 in
-    record { first = parts.0; second = parts.1; value = omega (arith, digit_is a parts.0, digit_is b parts.1, h.1); small = omega (arith, last a parts.0, last b parts.1, h.1) }
-  where
-    last : (c : ℕ) → is_ascii_digit c ≡ true → c ≤ 57
-    last c h = grind (arith, nat_tests, h)
+pair-of a b n e = grind (arith, cond_some, both, digit_is, nat_tests)
 
 -- what five numbers of pairs come to
 abbrev pub five_pairs : ℕ → ℕ → ℕ → ℕ → ℕ → ℕ
@@ -131,12 +116,7 @@ pub record AreTen (ds : List ℕ) (n : ℕ) : Type 0 where
 
 pub ten-of : (a b c d e f g h i j p q r s t : ℕ) → IsPairOf a b p → IsPairOf c d q → IsPairOf e f r → IsPairOf g h s → IsPairOf i j t
     → AreTen (a ∷ b ∷ c ∷ d ∷ e ∷ f ∷ g ∷ h ∷ i ∷ j ∷ []) (five_pairs p q r s t)
-ten-of a b c d e f g h i j p q r s t u v w x y =
-    record {
-      digits = rw (u.first, u.second, v.first, v.second, w.first, w.second, x.first, x.second, y.first, y.second) refl;
-      value = omega (arith, u.value, v.value, w.value, x.value, y.value);
-      small = omega (arith, u.small, v.small, w.small, x.small, y.small);
-    }
+ten-of a b c d e f g h i j p q r s t u v w x y = grind (arith)
 
 -- the same of a list of ten
 pub ten-from : (ds ps : List ℕ) (t : ℕ) → length ds ≡ 10 → ArePairs 4 ds ps → two_digit_value (get_or ds 8 0) (get_or ds 9 0) ≡ Some t

@@ -1,5 +1,5 @@
 -- Headers of ten digits, one space, a sign and four digits.
-use Rattle.std.proofs.Common.{◌≡◌, ◌≢◌, ◌⊎◌, inl, inr, ◌∙◌, ℕ, ◌+◌, ◌-◌, ◌*◌, ◌<◌, ◌≤◌, ◌^◌, Bool, true, false, List, [], ◌∷◌, ◌++◌, map, length, take, drop, get_or, replicate, refl, sym, ap, arith, pos, Some, None, Fits, w8}
+use Rattle.std.proofs.Common.{◌≡◌, ◌≢◌, ◌⊎◌, inl, inr, ◌∙◌, ℕ, ◌+◌, ◌*◌, ◌<◌, ◌≤◌, ◌^◌, Bool, true, false, List, [], ◌∷◌, ◌++◌, map, length, get_or, replicate, refl, sym, ap, arith, pos, Some, None, Fits, w8}
 use Rattle.std.proofs.lemmas.Bool.{cases_lt}
 use Rattle.std.proofs.lemmas.List.{length-map, get_or-map, get_or-take, get_or-drop}
 use Rattle.std.proofs.lemmas.Simd.{length-chunk, get_or-replicate}
@@ -12,8 +12,8 @@ use Rattle.gix_date.specs.Header.Reading.{ArePairsButSixth, IsUsualHeader}
 use Rattle.gix_date.specs.declared.parsing.offset.Sign.{Sign}
 use Rattle.gix_date.proofs.Fast.FastHeaders.{sign-mark}
 use Rattle.gix_date.proofs.Fast.Masks.{masks-tell}
-use Rattle.gix_date.proofs.Fast.Pairs.{is_other, other_bits, other-bits, digit, numbers_in, pair-at, pair-of, AreTen, IsPairOf, five_pairs, ten-of}
-use Rattle.gix_date.proofs.Text.ShortDigits.{bare-int}
+use Rattle.gix_date.proofs.Fast.Pairs.{is_other, other_bits, other-bits, digit, numbers_in, pair_of_digits, pair-of, AreTen, IsPairOf, five_pairs, ten-of}
+use Rattle.gix_date.proofs.Text.ShortDigits.{bare_int}
 use lib.Lanes.{chunk}
 
 -- all but the bytes 10 and 11 are digits
@@ -21,11 +21,8 @@ abbrev two_others : List Bool
 two_others = replicate 10 false ++ (true ∷ true ∷ replicate 4 false)
 
 not-those : (ms : List Bool) (i : ℕ) → ms ≡ two_others → (i < 10) ⊎ ((12 ≤ i) × (i < 16)) → get_or ms i false ≡ false
-not-those ms i e (inl l) = sym (get_or-take 10 ms i false l) ∙ ap (λ (t : List Bool). get_or (take 10 t) i false) e ∙ get_or-replicate 10 i false false l
-not-those ms i e (inr (l, h)) =
-    let j = i - 12 in
-    let at : 12 + j ≡ i = omega (arith, l) in
-    ap (λ (k : ℕ). get_or ms k false) (sym at) ∙ sym (get_or-drop 12 ms j false) ∙ ap (λ (t : List Bool). get_or (drop 12 t) j false) e ∙ get_or-replicate 4 j false false (omega (arith, l, h))
+not-those ms i e (inl l) = grind (arith, get_or-take, get_or-replicate)
+not-those ms i e (inr (l, h)) = grind (arith, get_or-drop, get_or-replicate)
 
 digit-at : (bytes : List ℕ) (i : ℕ) → length bytes ≡ 16 → ((k : ℕ) → Fits w8 (get_or bytes k 0)) → other_bits 16 bytes ≡ 3072 → (i < 10) ⊎ ((12 ≤ i) × (i < 16))
     → is_ascii_digit (get_or bytes i 0) ≡ true
@@ -39,9 +36,9 @@ digit-at bytes i sixteen fits e within =
     (ap is_other (sym (get_or-take 16 bytes i 0 below)) ∙ sym (get_or-map is_other block i 0 false (omega (arith, long, below))) ∙ not-those ms i are within)
 
 -- the number of the pair k, if that is not the space and the sign
-pub pair-but-sixth : (bytes : List ℕ) → length bytes ≡ 16 → ((k : ℕ) → Fits w8 (get_or bytes k 0)) → other_bits 16 bytes ≡ 3072 → ArePairsButSixth bytes (numbers_in 16 8 bytes)
-pair-but-sixth bytes sixteen fits e k l n =
-    pair-at 16 8 bytes k (omega (arith, sixteen)) l (omega (arith, l))
+pub pair_but_sixth : (bytes : List ℕ) → length bytes ≡ 16 → ((k : ℕ) → Fits w8 (get_or bytes k 0)) → other_bits 16 bytes ≡ 3072 → ArePairsButSixth bytes (numbers_in 16 8 bytes)
+pair_but_sixth bytes sixteen fits e k l n =
+    pair_of_digits 16 8 bytes k (omega (arith, sixteen)) l (omega (arith, l))
     (digit-at bytes (2 * k) sixteen fits e (places (2 * k) (omega arith) (omega arith))) (digit-at bytes (2 * k + 1) sixteen fits e (places (2 * k + 1) (omega arith) (omega arith)))
   where
     places : (i : ℕ) → 2 * k ≤ i → i ≤ 2 * k + 1 → (i < 10) ⊎ ((12 ≤ i) × (i < 16))
@@ -78,7 +75,7 @@ ten-digit-header (a ∷ b ∷ c ∷ d ∷ e ∷ f ∷ g ∷ h ∷ i ∷ j ∷ bl
         front = front;
         zone = mark ∷ k ∷ l ∷ m ∷ n ∷ [];
         whole = rw is refl;
-        is_seconds = bare-int front (seconds_of ps) (omega arith) ten.digits ten.value ten.small;
+        is_seconds = bare_int front (seconds_of ps) (omega arith) ten.digits ten.value ten.small;
         are_fields = offset-of-pairs mark k l m n (get_or ps 6 0) (get_or ps 7 0) sign marked (are 6 (omega arith) (omega arith)) (are 7 (omega arith) (omega arith));
       };
     }

@@ -15,7 +15,7 @@ use Rattle.gix_date.specs.Text.Numbers.{decimal_text, read_two_digits}
 use Rattle.gix_date.specs.declared.parsing.offset.OffsetFields.{OffsetFields}
 use Rattle.gix_date.specs.declared.parsing.offset.Sign.TheVariants.{Minus}
 use Rattle.gix_date.proofs.Fast.CanonicalBytes.{usual-seconds}
-use Rattle.gix_date.proofs.Fast.FastHeaders.{int-number, plain-time}
+use Rattle.gix_date.proofs.Fast.FastHeaders.{int-number, plain_time}
 use Rattle.gix_date.proofs.Header.HeaderLaws.{after-of, number-bytes}
 
 -- `-0000`, as its fields
@@ -43,7 +43,7 @@ unknown-not-canonical ds h =
 
 pub unknown-time : (ds : List ℕ) → are_usual_seconds ds ≡ true → header_time (ds ++ codes " -0000") ≡ Some (record { seconds = pos (digits_value 10 ds); offset = pos 0 })
 unknown-time ds h =
-    plain-time (ds ++ codes " -0000") (pos (digits_value 10 ds)) unknown_fields
+    plain_time (ds ++ codes " -0000") (pos (digits_value 10 ds)) unknown_fields
     (record { front = ds; zone = codes "-0000"; whole = refl; is_seconds = (usual-seconds ds h).is_int; are_fields = are-unknown })
 
 -- digits are the decimal text of their value

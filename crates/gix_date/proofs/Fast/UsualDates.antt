@@ -54,15 +54,11 @@ FourAt t n =
 -- two digits and four within their bounds
 pub two-of : (a b n tens : ℕ) → tens ≤ 57 → TwoAt (a ∷ b ∷ []) 0 n → AreWithin (48 ∷ 48 ∷ []) (tens ∷ 57 ∷ []) (a ∷ b ∷ [])
     → IsField (a ∷ b ∷ []) n × (n ≤ 10 * (tens - 48) + 9)
-two-of a b n tens small read ((l, (k, _)), (u, (v, _))) =
-    let is = read (digit a tens small l u) (digit b 57 (omega arith) k v) in
-    (is, omega (arith, is.2, u, v))
+two-of a b n tens small read ((l, (k, _)), (u, (v, _))) = grind (arith, digit)
 
 pub year-of : (a b c d n : ℕ) → FourAt (a ∷ b ∷ c ∷ d ∷ []) n → AreWithin (codes "0000") (codes "9999") (a ∷ b ∷ c ∷ d ∷ [])
     → IsYear (a ∷ b ∷ c ∷ d ∷ []) n × (n ≤ 9999)
-year-of a b c d n read ((k0, (k1, (k2, (k3, _)))), (u0, (u1, (u2, (u3, _))))) =
-    let is = read (digit a 57 (omega arith) k0 u0) (digit b 57 (omega arith) k1 u1) (digit c 57 (omega arith) k2 u2) (digit d 57 (omega arith) k3 u3) in
-    (is, omega (arith, is.4, u0, u1, u2, u3))
+year-of a b c d n read ((k0, (k1, (k2, (k3, _)))), (u0, (u1, (u2, (u3, _))))) = grind (arith, digit)
 
 -- ten bytes that look like a date, and eight that look like a clock
 pub date-of : (t : List ℕ) (y m d : ℕ) → length t ≡ 10 → FourAt t y → TwoAt t 5 m → TwoAt t 8 d

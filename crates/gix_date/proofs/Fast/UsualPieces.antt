@@ -1,4 +1,5 @@
 -- Dates of fixed length are read by the family of their form, which is the first that holds them.
+use Rattle.std.proofs.lemmas.Grind.{common_steps}
 use Rattle.std.proofs.Common.{◌≡◌, ◌∙◌, ◌≤◌, ◌<◌, ◌+◌, ℕ, zero, suc, Option, None, List, [], ◌∷◌, ◌++◌, length, take, drop, get_or, refl, ap, sym, subst, arith, inl, inr, codes, unsigned_abs, drop-cons, drop-drop, drop_of_length-le, length-take-le, length-drop, length-append, take-append-drop, take_all}
 use Rattle.std.proofs.lemmas.Bool.Decides.{nat_tests}
 use Rattle.std.specs.Int.{IsInRange}
@@ -8,13 +9,13 @@ use Rattle.gix_date.specs.Families.Patterns.{time_answer, max_date_offset, IsMea
 use Rattle.gix_date.specs.Families.Raw.{OffsetRule}
 use Rattle.gix_date.specs.Families.Usual.{AreAtMost, AreWithin, LooksLikeDate, LooksLikeClock, LooksLikeOffset, IsUsualOffset, Says}
 use Rattle.gix_date.specs.Fields.Civil.{DateFits, ClockFits}
-use Rattle.gix_date.specs.Fields.FieldTexts.{AreSpaces, IsPlainDate, IsClock, IsDayName, IsMonthName}
+use Rattle.gix_date.specs.Fields.FieldTexts.{AreSpaces, IsPlainDate, IsClock, IsDayName}
 use Rattle.gix_date.specs.Fields.Layout.{LocalTime, Piece, DayName, Rfc2822DayName, MonthName, Day, Year, PlainDate, Clock, Rfc2822Clock, Spaces, LetterT, Offset, ColonOffset, Rfc2822Offset, IsPiece, ArePieces, nothing_read}
 use Rattle.gix_date.specs.Text.Characters.{comma, colon, space, letter_t}
 use Rattle.gix_date.specs.Text.Names.{day_name, month_name}
 use Rattle.gix_date.proofs.Fast.UsualDates.{TwoAt, FourAt, exact, two-of, year-of, compact-usual, mail-usual, strict-usual, within-a-day}
 use Rattle.gix_date.proofs.Fields.Layouts.{set_piece, set_pieces}
-use Rattle.gix_date.proofs.Printing.ReadBack.{first-at, day-is, month-is}
+use Rattle.gix_date.proofs.Printing.ReadBack.{first-at, day_is_named, month-is}
 
 -- the least and the greatest bytes of a piece as programs print it
 abbrev pub bounds : Piece → List ℕ × List ℕ
@@ -105,36 +106,27 @@ a-space c is = (grind (arith, nat_tests, is), refl)
 
 piece-of : (p : Piece) (t : LocalTime) (x : List ℕ) → length x ≡ size p → AreWithin (bounds p).0 (bounds p).1 x → Read p t x
     → IsPiece p t x × ((f : LocalTime) → AllFit f → AllFit (set_piece p t f))
-piece-of DayName t x n h r = (subst IsDayName r.0 (day-is t.weekday r.1), λ f k. k)
+piece-of DayName t x n h r = (subst IsDayName r.0 (day_is_named t.weekday r.1), λ f k. k)
 piece-of Rfc2822DayName t (a ∷ b ∷ c ∷ x ∷ s ∷ []) n ((_, (_, (_, (k, (l, _))))), (_, (_, (_, (u, (v, _)))))) r = (
   inr (record {
     name = a ∷ b ∷ c ∷ [];
     gap = s ∷ [];
     whole = ap (λ (x : ℕ). a ∷ b ∷ c ∷ x ∷ s ∷ []) (exact x comma k u);
-    is_name = subst IsDayName r.0 (day-is t.weekday r.1);
+    is_name = subst IsDayName r.0 (day_is_named t.weekday r.1);
     are_spaces = a-space s (exact s space l v);
   }),
   λ f k. k,
 )
-piece-of MonthName t x n h r = (
-  subst (λ (x : List ℕ). IsMonthName x t.date.month) r.0 (month-is t.date.month r.1.0 r.1.1),
-  λ f k. (record { year = k.0.year; month = omega (arith, r.1); day = k.0.day }, k.1, k.2),
-)
-piece-of Day t (a ∷ b ∷ []) n h r =
-    let day = two-of a b t.date.day 51 (omega arith) r h in
-    (day.0, λ f k. (record { year = k.0.year; month = k.0.month; day = omega (arith, day.1) }, k.1, k.2))
-piece-of Year t (a ∷ b ∷ c ∷ d ∷ []) n h r =
-    let year = year-of a b c d t.date.year r h in
-    (year.0, λ f k. (record { year = year.1; month = k.0.month; day = k.0.day }, k.1, k.2))
+piece-of MonthName t x n h r = grind (arith, month-is)
+piece-of Day t (a ∷ b ∷ []) n h r = grind (arith, two-of)
+piece-of Year t (a ∷ b ∷ c ∷ d ∷ []) n h r = grind (arith, nat_tests, common_steps, year-of)
 piece-of PlainDate t x n h r = ((r h).0, λ f k. ((r h).1, k.1, k.2))
 piece-of Clock t x n h r = ((r h).0, λ f k. (k.0, (r h).1, k.2))
 piece-of Rfc2822Clock t x n h r = (inl (r h).0, λ f k. (k.0, (r h).1, k.2))
 piece-of Spaces t (c ∷ []) n h r = (a-space c (exact c space h.0.0 h.1.0), λ f k. k)
 piece-of LetterT t (c ∷ []) n h r = (ap (λ (c : ℕ). c ∷ []) (exact c letter_t h.0.0 h.1.0), λ f k. k)
 piece-of Offset t x n h r = (compact-usual x t.offset (r h), λ f k. (k.0, k.1, within-a-day (r h)))
-piece-of ColonOffset t (m ∷ a ∷ b ∷ x ∷ c ∷ d ∷ []) n ((k0, (k1, (k2, (k, (k3, (k4, _)))))), (u0, (u1, (u2, (u, (u3, (u4, _))))))) r =
-    let is = r ((k0, (k1, (k2, (k3, (k4, tt))))), (u0, (u1, (u2, (u3, (u4, tt)))))) in
-    (rw (exact x colon k u) (strict-usual (m ∷ a ∷ b ∷ colon ∷ c ∷ d ∷ []) t.offset is), λ f k. (k.0, k.1, within-a-day is))
+piece-of ColonOffset t (m ∷ a ∷ b ∷ x ∷ c ∷ d ∷ []) n ((k0, (k1, (k2, (k, (k3, (k4, _)))))), (u0, (u1, (u2, (u, (u3, (u4, _))))))) r = grind (arith, exact, strict-usual, within-a-day)
 piece-of Rfc2822Offset t x n h r = (mail-usual x t.offset (r h), λ f k. (k.0, k.1, within-a-day (r h)))
 piece-of p t x n h r = absurd (omega (arith, n))
 

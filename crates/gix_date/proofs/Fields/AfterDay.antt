@@ -6,11 +6,10 @@ use Rattle.gix_date.specs.Families.Answer.{FamilyAnswer, Absolute}
 use Rattle.gix_date.specs.Families.Epoch.{utc_time}
 use Rattle.gix_date.specs.Families.Patterns.{short_answer, iso8601_answer, iso8601_strict_answer, gitoxide_answer, default_answer, real_day_answer, time_answer, midnight}
 use Rattle.gix_date.specs.Fields.Civil.{civil_instant}
-use Rattle.gix_date.specs.Fields.DateFields.{read_plain_date, read_month, skip_spaces, skip_weekday}
+use Rattle.gix_date.specs.Fields.DateFields.{read_plain_date, skip_spaces}
 use Rattle.gix_date.specs.Text.Front.{skip_char, ◌>>=◌}
 use Rattle.gix_date.specs.Fields.Layout.{Piece, DayName, MonthName, Day, Year, Spaces, Clock, Offset, LetterT, ColonOffset, layout_answer}
 use Rattle.gix_date.specs.Families.AfterDay.{dashed_answer, answer_after, named_day_answer, read_named_day}
-use Rattle.gix_date.specs.Text.Numbers.{read_field}
 use Rattle.gix_date.specs.declared.civil.DateFields.{DateFields}
 use Rattle.gix_date.proofs.Fields.Instants.{is-dated}
 
@@ -30,8 +29,8 @@ unfolding short_answer iso8601_answer iso8601_strict_answer
 no-day text e = rw e refl
 
 -- a day that has an instant answers it
-pub day-with-instant : (date : DateFields) (s : ℤ) → Some s ≡ civil_instant date midnight (pos 0) → Some (Absolute (utc_time s)) ≡ alone date []
-day-with-instant date s e = rw (is-dated date midnight (pos 0) s e, sym e) refl
+pub day_with_instant : (date : DateFields) (s : ℤ) → Some s ≡ civil_instant date midnight (pos 0) → Some (Absolute (utc_time s)) ≡ alone date []
+day_with_instant date s e = rw (is-dated date midnight (pos 0) s e, sym e) refl
 
 -- with one they are those of what stands after it
 pub after-day : (text : List ℕ) (date : DateFields) (rest : List ℕ) → read_plain_date text ≡ Some (date, rest)
@@ -48,9 +47,7 @@ pub day-alone : (text : List ℕ) (date : DateFields) (rest : List ℕ) (x : Opt
     → read_plain_date text ≡ Some (date, rest) → (length rest == 0) ≡ true → x ≡ alone date [] → x ≡ dashed_answer text
 unfolding skip_spaces skip_char
 day-alone text date [] x e empty is = is ∙ sym (after-day text date [] e ∙ or-none (alone date []))
-day-alone text date (c ∷ cs) x e empty is =
-    let some : (length (c ∷ cs) == 0) ≡ false = grind (arith, nat_tests) in
-    let clash : false ≡ true = sym some ∙ empty in absurd cc
+day-alone text date (c ∷ cs) x e empty is = grind (arith, nat_tests)
 
 -- where more stands after it, that is ISO 8601
 pub day-then-clock : (text : List ℕ) (date : DateFields) (rest : List ℕ) (a : FamilyAnswer)
@@ -79,9 +76,7 @@ step (Some a) f read answer g k same = same a
 named-day : (pieces : List Piece) (text : List ℕ) → layout_answer (DayName ∷ Spaces ∷ MonthName ∷ Spaces ∷ Day ∷ Spaces ∷ pieces) time_answer text
     ≡ (read_named_day text >>= λ found. answer_after pieces time_answer found.0 found.1)
 unfolding read_named_day
-named-day pieces text =
-    step (skip_weekday text) _ _ _ _ _ (λ r1. step (skip_spaces r1) _ _ _ _ _ (λ r2. step (read_month r2) _ _ _ _ _ (λ m.
-    step (skip_spaces m.1) _ _ _ _ _ (λ r4. step (read_field r4) _ _ _ _ _ (λ d. step (skip_spaces d.1) _ _ _ _ _ (λ r6. refl))))))
+named-day pieces text = grind (arith, step)
 
 -- the answers after them
 abbrev pub year-first : DateFields → List ℕ → Option FamilyAnswer

@@ -1,5 +1,5 @@
 -- An offset with colons that is read is written so.
-use Rattle.std.proofs.Common.{◌≡◌, ◌+◌, ◌-◌, ◌*◌, ℕ, ℤ, Bool, true, cond, List, [], ◌∷◌, ◌⊎◌, inl, inr, Option, Some, None, option_map, refl, ap, sym, arith}
+use Rattle.std.proofs.Common.{◌≡◌, ◌+◌, ◌-◌, ◌*◌, ℕ, ℤ, Bool, true, cond, List, [], ◌∷◌, ◌⊎◌, inl, Option, Some, None, option_map, refl, sym, arith}
 use Rattle.std.proofs.lemmas.Option.{cond_some as guard, same_Some as same_some}
 use Rattle.std.proofs.lemmas.Bool.Decides.{nat_tests}
 use Rattle.std.specs.Char.{is_ascii_digit}
@@ -21,9 +21,7 @@ AreLastSeconds x seconds =
 
 last-by : (c a b : ℕ) (m p q : Bool) (seconds : Option ℕ) → (c == colon) ≡ m → is_ascii_digit a ≡ p → is_ascii_digit b ≡ q
     → cond m (option_map {U = Option ℕ} (λ n. Some n) (cond (p && q) (Some (10 * (a - 48) + (b - 48))) None)) None ≡ Some seconds → AreLastSeconds (c ∷ a ∷ b ∷ []) seconds
-last-by c a b true true true seconds m e f h =
-    let mark : c ≡ colon = grind (arith, nat_tests, m) in
-    inr (a, b, ap (λ (k : ℕ). k ∷ a ∷ b ∷ []) mark, e, f, sym (same_some _ seconds h))
+last-by c a b true true true seconds m e f h = grind (arith, nat_tests, same_some)
 last-by c a b x p q seconds m e f h = absurd cc
 
 last-taken : (x : List ℕ) (seconds : Option ℕ) → last_colon_pair x ≡ Some seconds → AreLastSeconds x seconds

@@ -101,6 +101,4 @@ datetime_of n (date, day) (time, clock) =
 
 -- and each civil nanosecond its datetime
 pub datetime_exists : (n : ℤ) → IsCivilNanos n → IsDateTimeOf n
-datetime_exists n h =
-    datetime_of n (day_exists (int_div_euclid n (pos 86_400_000_000_000)) (omega (arith, signed_arith), omega (arith, signed_arith)))
-    (clock_exists (unsigned_abs (int_rem_euclid n (pos 86_400_000_000_000))) (omega (arith, signed_arith)))
+datetime_exists n h = grind (arith, datetime_of, day_exists, signed_arith, clock_exists)

@@ -1,12 +1,12 @@
 -- Fields that are written so are read.
-use Rattle.std.proofs.Common.{◌≡◌, ◌∙◌, ℕ, Bool, true, false, List, [], ◌∷◌, ◌++◌, length, refl, ap, sym, subst, Option, Some, None, append_assoc, arith, ℤ, inl, inr}
+use Rattle.std.proofs.Common.{◌≡◌, ◌∙◌, ℕ, Bool, true, false, List, [], ◌∷◌, ◌++◌, length, refl, ap, sym, Option, Some, None, append_assoc, arith, ℤ, inl, inr}
 use Rattle.std.proofs.Math.Seq.{drop-append_seam}
 use Rattle.std.proofs.lemmas.Bool.{and_parts as both}
 use Rattle.std.proofs.lemmas.Bool.Decides.{nat_tests}
-use Rattle.std.specs.Prelude.{◌==◌, ◌&&◌, nat_lt}
+use Rattle.std.specs.Prelude.{◌==◌, nat_lt}
 use Rattle.std.specs.Char.{is_ascii_digit, is_ascii_alphabetic}
 use Rattle.std.specs.List.{prefix_len, list_all}
-use Rattle.gix_date.specs.Text.Characters.{plus, minus, comma, colon, space, is_space}
+use Rattle.gix_date.specs.Text.Characters.{colon, space, is_space}
 use Rattle.gix_date.specs.Fields.FieldTexts.{IsField, IsYear, AreSpaces, AreThreeLetters, IsDayName, IsMonthName, IsPlainDate, IsClock, IsRfc2822Clock, IsDayPrefix}
 use Rattle.gix_date.specs.Text.Front.{skip_char}
 use Rattle.gix_date.specs.Text.Numbers.{read_two_digits, read_digit, read_field, read_year}
@@ -62,7 +62,7 @@ year-begins (a ∷ b ∷ c ∷ d ∷ []) n h = h.0
 year-begins t n h = absurd h
 
 pub name-begins : (t : List ℕ) → AreThreeLetters t → Begins is_ascii_alphabetic t
-name-begins (a ∷ b ∷ c ∷ []) h = (both (is_ascii_alphabetic a) (is_ascii_alphabetic b) ((both (is_ascii_alphabetic a && is_ascii_alphabetic b) (is_ascii_alphabetic c) h).0)).0
+name-begins (a ∷ b ∷ c ∷ []) h = grind (arith, both)
 name-begins t h = absurd h
 
 pub spaces-begin : (t : List ℕ) → AreSpaces t → Begins is_space t
@@ -114,15 +114,11 @@ weekday-read t rest h = rw (name-read t rest h.0, h.1) refl
 
 pub date-read : (t rest : List ℕ) (date : DateFields) → IsPlainDate t date → BeginsNot is_ascii_digit rest → read_plain_date (t ++ rest) ≡ Some (date, rest)
 unfolding read_plain_date skip_char
-date-read t rest date h s =
-    let split : t ++ rest ≡ h.year ++ (minus ∷ (h.month ++ (minus ∷ (h.day ++ rest)))) = rw h.whole (simp append_assoc) in
-    ap read_plain_date split ∙ rw (year-read h.year (minus ∷ (h.month ++ (minus ∷ (h.day ++ rest)))) date.year h.is_year, field-read h.month (minus ∷ (h.day ++ rest)) date.month h.is_month refl, field-read h.day rest date.day h.is_day s) refl
+date-read t rest date h s = grind (arith, append_assoc, year-read, field-read)
 
 pub prefix-read : (t rest : List ℕ) → IsDayPrefix t → BeginsNot is_space rest → skip_day_name (t ++ rest) ≡ Some rest
 unfolding skip_day_name skip_char
-prefix-read t rest h s =
-    let split : t ++ rest ≡ h.name ++ (comma ∷ (h.gap ++ rest)) = rw h.whole (simp append_assoc) in
-    ap skip_day_name split ∙ rw (weekday-read h.name (comma ∷ (h.gap ++ rest)) h.is_name, spaces-read h.gap rest h.are_spaces s) refl
+prefix-read t rest h s = grind (arith, append_assoc, weekday-read, spaces-read)
 
 -- no name of a day stands before a digit
 pub no-prefix : (t : List ℕ) → Begins is_ascii_digit t → skip_day_name t ≡ None
@@ -139,10 +135,7 @@ with_second hour minute rest second = Some (record { hour = hour; minute = minut
 
 pub clock-read : (t rest : List ℕ) (clock : ClockFields) → IsClock t clock → BeginsNot is_ascii_digit rest → read_clock (t ++ rest) ≡ Some (clock, rest)
 unfolding read_clock read_minutes read_second skip_char with_second
-clock-read t rest clock h s =
-    let split : t ++ rest ≡ h.hour ++ (colon ∷ (h.minute ++ (colon ∷ (h.second ++ rest)))) = rw h.whole (simp append_assoc) in
-    ap read_clock split ∙ rw (field-read h.hour (colon ∷ (h.minute ++ (colon ∷ (h.second ++ rest)))) clock.hour h.is_hour refl, field-read h.minute (colon ∷ (h.second ++ rest)) clock.minute h.is_minute refl, field-read h.second rest h.seconds h.is_second s)
-    (ap (with_second clock.hour clock.minute rest) (sym h.without_leap))
+clock-read t rest clock h s = grind (arith, append_assoc, field-read, with_second)
 
 -- what no second stands after
 abbrev pub NoColon : List ℕ → Type 0
@@ -155,7 +148,7 @@ no-second clock (c ∷ t) h = rw h refl
 
 second-read : {t : List ℕ} {clock : ClockFields} (h : IsClock t clock) (rest : List ℕ) → BeginsNot is_ascii_digit rest → read_second (minutes clock.hour clock.minute) (colon ∷ (h.second ++ rest)) ≡ Some (clock, rest)
 unfolding read_second skip_char with_second
-second-read {clock = clock} h rest s = rw (field-read h.second rest h.seconds h.is_second s) (ap (with_second clock.hour clock.minute rest) (sym h.without_leap))
+second-read {clock = clock} h rest s = grind (arith, field-read, with_second)
 
 pub rfc2822-clock-read : (t rest : List ℕ) (clock : ClockFields) → IsRfc2822Clock t clock → BeginsNot is_ascii_digit rest → NoColon rest → read_rfc2822_clock (t ++ rest) ≡ Some (clock, rest)
 unfolding read_rfc2822_clock read_minutes skip_char with_second
@@ -163,10 +156,7 @@ rfc2822-clock-read t rest clock (inl h) s e =
     let split : t ++ rest ≡ h.hour ++ (colon ∷ (h.minute ++ (colon ∷ (h.second ++ rest)))) = rw h.whole (simp append_assoc) in
     let second : read_second (minutes clock.hour clock.minute) (colon ∷ (h.second ++ rest)) ≡ Some (clock, rest) = second-read h rest s in
     ap read_rfc2822_clock split ∙ rw (field-read h.hour (colon ∷ (h.minute ++ (colon ∷ (h.second ++ rest)))) clock.hour h.is_hour refl, field-read h.minute (colon ∷ (h.second ++ rest)) clock.minute h.is_minute refl, second) refl
-rfc2822-clock-read t rest clock (inr h) s e =
-    let split : t ++ rest ≡ h.hour ++ (colon ∷ (h.minute ++ rest)) = rw h.whole (simp append_assoc) in
-    ap read_rfc2822_clock split ∙ rw (field-read h.hour (colon ∷ (h.minute ++ rest)) clock.hour h.is_hour refl, field-read h.minute rest clock.minute h.is_minute s, no-second (minutes clock.hour clock.minute) rest e)
-    (ap (with_second clock.hour clock.minute rest) (sym h.at_its_start))
+rfc2822-clock-read t rest clock (inr h) s e = grind (arith, append_assoc, field-read, no-second, with_second)
 
 pub is-space : (c : ℕ) → is_space c ≡ true → c ≡ space
 is-space c h = grind (arith, nat_tests, h)
@@ -182,9 +172,7 @@ space_no_rfc2822 t = refl
 
 never : (zone : List ℕ → Option ℤ) (c : ℕ) (t : List ℕ) (offset : ℤ) (b : Bool) → ((t : List ℕ) → zone (space ∷ t) ≡ None) → is_space c ≡ b → zone (c ∷ t) ≡ Some offset → b ≡ false
 never zone c t offset false refused e h = refl
-never zone c t offset true refused e h =
-    let none : zone (c ∷ t) ≡ None = ap (λ k. zone (k ∷ t)) (is-space c e) ∙ refused t in
-    let clash : None ≡ Some offset = sym none ∙ h in cc
+never zone c t offset true refused e h = grind (arith, is-space)
 
 zone-no-space : (zone : List ℕ → Option ℤ) → ((t : List ℕ) → zone (space ∷ t) ≡ None) → (t : List ℕ) (offset : ℤ) → zone t ≡ Some offset → BeginsNot is_space t
 zone-no-space zone refused [] offset h = tt
@@ -199,15 +187,11 @@ rfc2822-no-space = zone-no-space rfc2822_zone space_no_rfc2822
 -- nor with a digit
 digit_no_strict : (c : ℕ) (t : List ℕ) → is_ascii_digit c ≡ true → strict_offset (c ∷ t) ≡ None
 unfolding strict_offset read_sign skip_char
-digit_no_strict c t h =
-    let no_plus : (c == plus) ≡ false = grind (arith, nat_tests, h) in
-    let no_minus : (c == minus) ≡ false = grind (arith, nat_tests, h) in
-    rw (no_plus, no_minus) refl
+digit_no_strict c t h = grind (arith, nat_tests)
 
 never-digit : (c : ℕ) (t : List ℕ) (offset : ℤ) (b : Bool) → is_ascii_digit c ≡ b → strict_offset (c ∷ t) ≡ Some offset → b ≡ false
 never-digit c t offset false e h = refl
-never-digit c t offset true e h =
-    let clash : None ≡ Some offset = sym (digit_no_strict c t e) ∙ h in cc
+never-digit c t offset true e h = grind (arith, digit_no_strict)
 
 pub strict-no-digit : (t : List ℕ) (offset : ℤ) → strict_offset t ≡ Some offset → BeginsNot is_ascii_digit t
 strict-no-digit [] offset h = tt
@@ -215,22 +199,18 @@ strict-no-digit (c ∷ t) offset h = never-digit c t offset (is_ascii_digit c) r
 
 -- what a clock or a date begins with
 pub clock-begins : (t rest : List ℕ) (clock : ClockFields) → IsClock t clock → Begins is_ascii_digit (t ++ rest)
-clock-begins t rest clock h =
-    let split : t ++ rest ≡ h.hour ++ (colon ∷ (h.minute ++ (colon ∷ (h.second ++ rest)))) = rw h.whole (simp append_assoc) in
-    subst (Begins is_ascii_digit) (sym split) (begins-append is_ascii_digit h.hour (colon ∷ (h.minute ++ (colon ∷ (h.second ++ rest)))) (field-begins h.hour clock.hour h.is_hour))
+clock-begins t rest clock h = grind (arith, append_assoc, begins-append, field-begins)
 
 pub rfc2822-clock-begins : (t rest : List ℕ) (clock : ClockFields) → IsRfc2822Clock t clock → Begins is_ascii_digit (t ++ rest)
 rfc2822-clock-begins t rest clock (inl h) = clock-begins t rest clock h
-rfc2822-clock-begins t rest clock (inr h) =
-    let split : t ++ rest ≡ h.hour ++ (colon ∷ (h.minute ++ rest)) = rw h.whole (simp append_assoc) in
-    subst (Begins is_ascii_digit) (sym split) (begins-append is_ascii_digit h.hour (colon ∷ (h.minute ++ rest)) (field-begins h.hour clock.hour h.is_hour))
+rfc2822-clock-begins t rest clock (inr h) = grind (arith, append_assoc, begins-append, field-begins)
 
 -- what may stand after spaces, and after a field
 pub digit-front : (t rest : List ℕ) → Begins is_ascii_digit t → BeginsNot is_space (t ++ rest)
 digit-front t rest h = begins_not is_ascii_digit is_space (t ++ rest) digit-no-space (begins-append is_ascii_digit t rest h)
 
 pub name-front : (t rest : List ℕ) → AreThreeLetters t → BeginsNot is_space (t ++ rest)
-name-front t rest h = begins_not is_ascii_alphabetic is_space (t ++ rest) letter-no-space (begins-append is_ascii_alphabetic t rest (name-begins t h))
+name-front t rest h = grind (arith, begins_not, letter-no-space, begins-append, name-begins)
 
 pub gap-front : (t rest : List ℕ) → AreSpaces t → BeginsNot is_ascii_digit (t ++ rest)
 gap-front t rest h = begins_not is_space is_ascii_digit (t ++ rest) space-no-digit (begins-append is_space t rest (spaces-begin t h))

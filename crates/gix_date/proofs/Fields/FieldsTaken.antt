@@ -1,11 +1,12 @@
 -- Fields that are read are written so.
+use Rattle.std.proofs.lemmas.Grind.{common_steps}
 use Rattle.std.proofs.Common.{◌≡◌, ◌∙◌, ℕ, ℤ, ◌<◌, ◌+◌, ◌-◌, ◌*◌, Bool, true, false, cond, List, [], ◌∷◌, ◌++◌, length, drop, take, refl, ap, sym, subst, Option, Some, None, append_assoc, arith, inl, inr, ◌⊎◌, option_map, take-append-drop, one-add}
 use Rattle.std.proofs.lemmas.Option.{same_Some as same, cond_some as guard}
 use Rattle.std.proofs.lemmas.Bool.{and_parts as both}
 use Rattle.std.proofs.lemmas.Bool.Decides.{nat_tests}
 use Rattle.std.proofs.lemmas.List.Folds.{length-prefix_len}
-use Rattle.std.specs.Prelude.{◌==◌, ◌&&◌, nat_lt, is_none, unwrap_or}
-use Rattle.std.specs.Char.{is_ascii_digit, is_ascii_alphabetic}
+use Rattle.std.specs.Prelude.{◌&&◌, nat_lt, is_none, unwrap_or}
+use Rattle.std.specs.Char.{is_ascii_digit}
 use Rattle.std.specs.List.{prefix_len, list_all}
 use Rattle.std.specs.Option.{option_or}
 use Rattle.gix_date.specs.Text.Characters.{minus, comma, colon, is_space}
@@ -54,17 +55,13 @@ Took IsText x value rest = TookFront (λ text. IsText text value) x rest
 pub after-taken : (b : ℕ) (x rest : List ℕ) → skip_char b x ≡ Some rest → x ≡ b ∷ rest
 unfolding skip_char
 after-taken b [] rest e = absurd cc
-after-taken b (c ∷ t) rest e =
-    let g = guard (c == b) t rest e in
-    let first : c ≡ b = grind (arith, nat_tests, g.0) in
-    ap (λ k. k ∷ t) first ∙ ap (λ (r : List ℕ). b ∷ r) g.1
+after-taken b (c ∷ t) rest e = grind (arith, guard, nat_tests)
 
 abbrev at_front : ℕ → List ℕ → ℕ × List ℕ
 at_front n rest = (n, rest)
 
 took : (IsText : List ℕ → ℕ → Type 0) (x text : List ℕ) (v n : ℕ) (r rest : List ℕ) → at_front v r ≡ at_front n rest → IsText text v → x ≡ text ++ r → Took IsText x n rest
-took IsText x text v n r rest e h w =
-    record { text = text; is = subst (λ (k : ℕ). IsText text k) (ap (λ (p : ℕ × List ℕ). p.0) e) h; whole = w ∙ ap (λ (p : ℕ × List ℕ). text ++ p.1) e }
+took IsText x text v n r rest e h w = grind (arith)
 
 one_digit : (a n : ℕ) (x rest : List ℕ) → cond (is_ascii_digit a) (Some (at_front (a - 48) x)) None ≡ Some (at_front n rest) → Took IsField (a ∷ x) n rest
 one_digit a n x rest e =
@@ -94,10 +91,7 @@ pub record TookTwo (x : List ℕ) (n : ℕ) (rest : List ℕ) : Type 0 where
 
 two : (a b n : ℕ) (t rest : List ℕ) (p : Bool) → (is_ascii_digit a && is_ascii_digit b) ≡ p → option_map (λ m. at_front m t) (cond p (Some (10 * (a - 48) + (b - 48))) None) ≡ Some (at_front n rest) → TookTwo (a ∷ b ∷ t) n rest
 two a b n t rest false h e = absurd cc
-two a b n t rest true h e =
-    let digits = both (is_ascii_digit a) (is_ascii_digit b) h in
-    let found = same (at_front (10 * (a - 48) + (b - 48)) t) (n, rest) e in
-    record { tens = a; ones = b; is_tens = digits.0; is_ones = digits.1; value = sym (ap (λ (p : ℕ × List ℕ). p.0) found); whole = ap (λ (p : ℕ × List ℕ). a ∷ b ∷ p.1) found }
+two a b n t rest true h e = grind (arith, both, same)
 
 pub two-taken : (x : List ℕ) (n : ℕ) (rest : List ℕ) → read_two_digits x ≡ Some (n, rest) → TookTwo x n rest
 unfolding read_two_digits
@@ -144,9 +138,7 @@ spaces-taken x rest e =
 
 pub name-taken : (x name rest : List ℕ) → read_name x ≡ Some (name, rest) → AreThreeLetters name × (x ≡ name ++ rest)
 unfolding read_name
-name-taken (a ∷ b ∷ c ∷ t) name rest e =
-    let g = guard (is_ascii_alphabetic a && is_ascii_alphabetic b && is_ascii_alphabetic c) (a ∷ b ∷ c ∷ [], t) (name, rest) e in
-    (subst AreThreeLetters (ap (λ (p : List ℕ × List ℕ). p.0) g.1) g.0, ap (λ (p : List ℕ × List ℕ). p.0 ++ p.1) g.1)
+name-taken (a ∷ b ∷ c ∷ t) name rest e = grind (arith, nat_tests, common_steps, guard)
 name-taken x name rest e = absurd cc
 
 pub month-taken : (x : List ℕ) (n : ℕ) (rest : List ℕ) → read_month x ≡ Some (n, rest) → Took IsMonthName x n rest
@@ -271,12 +263,8 @@ as_rfc2822 t = record { text = t.text; is = inl t.is; whole = t.whole }
 
 with_or_without : (x : List ℕ) (start : ClockFields) (middle : List ℕ) (clock : ClockFields) (rest : List ℕ) (second : ReadFront ClockFields) → read_second start middle ≡ second → Took AreMinutes x start middle
     → Some (unwrap_or second (start, middle)) ≡ Some (clock, rest) → Took IsRfc2822Clock x clock rest
-with_or_without x start middle clock rest (Some found) s front e =
-    let is : found ≡ (clock, rest) = same found (clock, rest) e in
-    as_rfc2822 (second-taken x start middle clock rest front (s ∙ ap (λ (p : ClockFields × List ℕ). Some p) is))
-with_or_without x start middle clock rest None s front e =
-    let is : (start, middle) ≡ (clock, rest) = same (start, middle) (clock, rest) e in
-    subst (λ (p : ClockFields × List ℕ). Took IsRfc2822Clock x p.0 p.1) is (record { text = front.text; is = inr front.is; whole = front.whole })
+with_or_without x start middle clock rest (Some found) s front e = grind (arith, same, as_rfc2822, second-taken)
+with_or_without x start middle clock rest None s front e = grind (arith, same)
 
 pub rfc2822-clock-taken : (x : List ℕ) (clock : ClockFields) (rest : List ℕ) → read_rfc2822_clock x ≡ Some (clock, rest) → Took IsRfc2822Clock x clock rest
 unfolding read_rfc2822_clock

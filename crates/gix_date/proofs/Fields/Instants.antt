@@ -1,12 +1,12 @@
 -- The instant of fields, from what `jiff` says of dates, clocks and instants.
-use Rattle.std.proofs.Common.{◌≡◌, ◌∙◌, ◌↔◌, ◌≤◌, ℤ, pos, ◌-ℤ◌, ◌*ℤ◌, Bool, true, false, cond, arith, refl, ap, Some, None, unsigned_abs, int_div, sym}
+use Rattle.std.proofs.Common.{◌≡◌, ◌↔◌, ◌≤◌, ℤ, pos, ◌-ℤ◌, ◌*ℤ◌, Bool, true, false, cond, arith, refl, Some, None, unsigned_abs, int_div}
 use Rattle.std.proofs.lemmas.Bool.{true_from_ne_false, and_parts as both, and_from as join, leb-true as n_test, le-leb as n_holds}
 use Rattle.std.proofs.lemmas.Float.{T_from_true}
-use Rattle.std.specs.Prelude.{◌&&◌, nat_le}
+use Rattle.std.specs.Prelude.{◌&&◌}
 use Rattle.std.specs.Int.Signed.{le_z, le_z_yes, ◌≤ℤ◌}
 use Rattle.jiff_core.proofs.SignedLemmas.{signed_arith}
 use Rattle.jiff_core.proofs.DateTimeLemmas.{civil_nanos-parts}
-use Rattle.jiff_core.specs.Calendar.{IsDate, IsBetween, days_from_civil, days_in_month}
+use Rattle.jiff_core.specs.Calendar.{IsDate, IsBetween, days_from_civil}
 use Rattle.jiff_core.specs.Date.{IsYmd, epoch_day}
 use Rattle.jiff_core.specs.DateTime.{civil_nanos, civil_seconds as shown_seconds}
 use Rattle.jiff_core.specs.Time.{IsTime, IsHms}
@@ -32,43 +32,16 @@ z_holds a b h = true_from_ne_false (le_z a b) (λ n. absurd (rw n at h.le))
 -- the tests say what `jiff`'s words say
 
 date_holds : (d : DateFields) → d.year ≤ 9999 → is_date d ≡ true → IsDate (pos d.year) (pos d.month) (pos d.day)
-date_holds d y h =
-    let last = both (nat_le 1 d.month && nat_le d.month 12 && nat_le 1 d.day) (nat_le d.day (days_in_month (pos d.year) d.month)) h in
-    let low_day = both (nat_le 1 d.month && nat_le d.month 12) (nat_le 1 d.day) last.0 in
-    let month = both (nat_le 1 d.month) (nat_le d.month 12) low_day.0 in
-    let a : 1 ≤ d.month = n_test _ _ month.0 in
-    let b : d.month ≤ 12 = n_test _ _ month.1 in
-    let c : 1 ≤ d.day = n_test _ _ low_day.1 in
-    let e : d.day ≤ days_in_month (pos d.year) d.month = n_test _ _ last.1 in
-    ((omega (arith, signed_arith), omega (arith, signed_arith)), (omega (arith, signed_arith), omega (arith, signed_arith)), (omega (arith, signed_arith), omega (arith, signed_arith)))
+date_holds d y h = grind (arith, both, n_test, signed_arith)
 
 pub date_from : (d : DateFields) → IsDate (pos d.year) (pos d.month) (pos d.day) → is_date d ≡ true
-date_from d h =
-    let a : 1 ≤ d.month = omega (arith, signed_arith) in
-    let b : d.month ≤ 12 = omega (arith, signed_arith) in
-    let c : 1 ≤ d.day = omega (arith, signed_arith) in
-    let e : d.day ≤ days_in_month (pos d.year) d.month = omega (arith, signed_arith, h.2.1) in
-    join _ _ (join _ _ (join _ _ (n_holds _ _ a) (n_holds _ _ b)) (n_holds _ _ c)) (n_holds _ _ e)
+date_from d h = grind (arith, signed_arith, join, n_holds)
 
 clock_holds : (c : ClockFields) → is_clock c ≡ true → IsTime (pos c.hour) (pos c.minute) (pos c.second) (pos 0)
-clock_holds c h =
-    let last = both (nat_le c.hour 23 && nat_le c.minute 59) (nat_le c.second 59) h in
-    let first = both (nat_le c.hour 23) (nat_le c.minute 59) last.0 in
-    let a : c.hour ≤ 23 = n_test _ _ first.0 in
-    let b : c.minute ≤ 59 = n_test _ _ first.1 in
-    let e : c.second ≤ 59 = n_test _ _ last.1 in (
-      (omega (arith, signed_arith), omega (arith, signed_arith)),
-      (omega (arith, signed_arith), omega (arith, signed_arith)),
-      (omega (arith, signed_arith), omega (arith, signed_arith)),
-      (omega (arith, signed_arith), omega (arith, signed_arith)),
-    )
+clock_holds c h = grind (arith, both, n_test, signed_arith)
 
 pub clock_from : (c : ClockFields) → IsTime (pos c.hour) (pos c.minute) (pos c.second) (pos 0) → is_clock c ≡ true
-clock_from c h =
-    let a : c.hour ≤ 23 = omega (arith, signed_arith) in
-    let b : c.minute ≤ 59 = omega (arith, signed_arith) in
-    let e : c.second ≤ 59 = omega (arith, signed_arith) in
-    join _ _ (join _ _ (n_holds _ _ a) (n_holds _ _ b)) (n_holds _ _ e)
+clock_from c h = grind (arith, signed_arith, join, n_holds)
 
 pub instant_holds : (s : ℤ) → is_instant s ≡ true → IsInstantSeconds s
 instant_holds s h = let p = both (le_z first_second s) (le_z s last_second) h in (z_test _ _ p.0, z_test _ _ p.1)
@@ -91,9 +64,7 @@ local_nanos local d c offset date time =
 pub local_seconds : (local : DateTime) (d : DateFields) (c : ClockFields) (offset : ℤ) → IsYmd (pos d.year) (pos d.month) (pos d.day) local.date
     → IsHms (pos c.hour) (pos c.minute) (pos c.second) (pos 0) local.time → shown_seconds local -ℤ offset ≡ civil_seconds d c offset
 unfolding shown_seconds
-local_seconds local d c offset date time =
-    let day = epoch_day_of local.date (pos d.year) (pos d.month) (pos d.day) date in
-    omega (arith, signed_arith, day, time.0, time.1, time.2)
+local_seconds local d c offset date time = grind (arith, epoch_day_of, signed_arith)
 
 pub instant_range : (n s : ℤ) → n ≡ s *ℤ pos 1_000_000_000 → IsTimestampNanos n ↔ IsInstantSeconds s
 instant_range n s e = (λ h. omega (arith, signed_arith), λ h. omega (arith, signed_arith))
@@ -110,24 +81,16 @@ refused a b c s h = refl
 pub no_date_or_clock : (d : DateFields) (c : ClockFields) (offset : ℤ) → d.year ≤ 9999
     → (IsDate (pos d.year) (pos d.month) (pos d.day) × IsTime (pos c.hour) (pos c.minute) (pos c.second) (pos 0) → ⊥) → None ≡ civil_instant d c offset
 unfolding civil_instant
-no_date_or_clock d c offset y none =
-    refused (is_date d) (is_clock c) (is_instant (civil_seconds d c offset)) _ (λ h.
-    let p = both (is_date d && is_clock c) (is_instant (civil_seconds d c offset)) h in
-    let q = both (is_date d) (is_clock c) p.0 in
-    none (date_holds d y q.0, clock_holds c q.1))
+no_date_or_clock d c offset y none = grind (arith, refused, both, date_holds, clock_holds)
 
 pub no_instant : (d : DateFields) (c : ClockFields) (offset : ℤ) → (IsInstantSeconds (civil_seconds d c offset) → ⊥) → None ≡ civil_instant d c offset
 unfolding civil_instant
-no_instant d c offset none =
-    refused (is_date d) (is_clock c) (is_instant (civil_seconds d c offset)) _ (λ h.
-    none (instant_holds _ (both (is_date d && is_clock c) (is_instant (civil_seconds d c offset)) h).1))
+no_instant d c offset none = grind (arith, refused, instant_holds, both)
 
 pub an_instant : (d : DateFields) (c : ClockFields) (offset s : ℤ) → IsDate (pos d.year) (pos d.month) (pos d.day) → IsTime (pos c.hour) (pos c.minute) (pos c.second) (pos 0)
     → IsInstantSeconds (civil_seconds d c offset) → s ≡ civil_seconds d c offset → Some s ≡ civil_instant d c offset
 unfolding civil_instant
-an_instant d c offset s date time instant is =
-    ap Some is ∙ ap (λ (b : Bool). cond b (Some (civil_seconds d c offset)) None)
-    (sym (join (is_date d && is_clock c) (is_instant (civil_seconds d c offset)) (join _ _ (date_from d date) (clock_from c time)) (instant_from _ instant)))
+an_instant d c offset s date time instant is = grind (arith, join, date_from, clock_from, instant_from)
 
 -- a day that has an instant is a date
 

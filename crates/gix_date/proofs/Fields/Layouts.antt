@@ -1,4 +1,5 @@
 -- A text that is a layout's pieces is read, and what is read is a layout's pieces.
+use Rattle.std.proofs.Common.{arith}
 use Rattle.std.proofs.Common.{◌≡◌, ◌∙◌, ℕ, ℤ, Bool, List, [], ◌∷◌, ◌++◌, refl, ap, sym, subst, Option, Some, None, inl, inr, ◌⊎◌, append-nil}
 use Rattle.std.proofs.lemmas.Option.{same_Some as some_same}
 use Rattle.std.specs.Prelude.{true, is_some, unwrap_or}
@@ -84,7 +85,7 @@ offset zone x v h = record { text = x; is = h; whole = sym (append-nil x) }
 
 pub piece-taken : (p : Piece) (f : LocalTime) (x : List ℕ) (y : LocalTime × List ℕ) → read_piece p f x ≡ Some y → PieceTaken p f x y
 piece-taken DayName f = taken skip_weekday (λ v. f) (λ v. v) (λ v. refl) (λ x. refl) name
-piece-taken Rfc2822DayName f = λ x y e. subst (PieceTaken Rfc2822DayName f x) (some_same (f, unwrap_or (skip_day_name x) x) y e) (prefix f x (skip_day_name x) refl)
+piece-taken Rfc2822DayName f = grind (arith, some_same, prefix)
 piece-taken MonthName f = taken read_month (λ v. record f { date = record f.date { month = v.0 } }) (λ v. v.1) (λ v. refl) (λ x. refl) (λ x v. month-taken x v.0 v.1)
 piece-taken Day f = taken read_field (λ v. record f { date = record f.date { day = v.0 } }) (λ v. v.1) (λ v. refl) (λ x. refl) (λ x v. field-taken x v.0 v.1)
 piece-taken Year f = taken read_year (λ v. record f { date = record f.date { year = v.0 } }) (λ v. v.1) (λ v. refl) (λ x. refl) (λ x v. year-taken x v.0 v.1)
@@ -234,8 +235,8 @@ letter-read f rest = refl
 piece-read : (p : Piece) (t f : LocalTime) (front rest : List ℕ) → IsPiece p t front → Needs p rest
     → read_piece p f (front ++ rest) ≡ Some (set_piece p t f, rest)
 piece-read DayName t f front rest h n = rw (weekday-read front rest h) refl
-piece-read Rfc2822DayName t f front rest (inl none) n = subst (λ k. read_piece Rfc2822DayName f (k ++ rest) ≡ Some (f, rest)) (sym none) (rw (no-prefix rest n) refl)
-piece-read Rfc2822DayName t f front rest (inr named) n = rw (prefix-read front rest named (begins_not is_ascii_digit is_space rest digit-no-space n)) refl
+piece-read Rfc2822DayName t f front rest (inl none) n = grind (arith, no-prefix)
+piece-read Rfc2822DayName t f front rest (inr named) n = grind (arith, prefix-read, begins_not, digit-no-space)
 piece-read MonthName t f front rest h n = rw (month-read front rest t.date.month h) refl
 piece-read Day t f front rest h n = rw (field-read front rest t.date.day h n) refl
 piece-read Year t f front rest h n = rw (year-read front rest t.date.year h) refl
@@ -274,15 +275,7 @@ pub record IsSound (layout : List Piece) (of_time : LocalTime → Option FamilyA
 -- such a layout is read where a text is its pieces, and nowhere else
 pub spelled : (layout : List Piece) (of_time : LocalTime → Option FamilyAnswer) → IsSound layout of_time
     → Accepts (layout_answer layout of_time) (IsMeaning layout of_time)
-spelled layout of_time s text answer = (
-  λ e.
-      let r = went (read_pieces layout nothing_read text) of_time answer e in
-      let t = pieces-taken layout s.once nothing_read text r.0 r.1 in
-      record { time = r.0; are = t.are; comes = r.2 },
-  λ h.
-      goes_on (read_pieces layout nothing_read text) (set_pieces layout h.time nothing_read) of_time (pieces-read layout (given (readable layout) s.is_readable) h.time nothing_read text h.are)
-      ∙ s.all h.time ∙ h.comes,
-)
+spelled layout of_time s text answer = grind (arith, went, pieces-taken, goes_on, pieces-read, given)
 
 -- each formatted date is its layout
 pub record AreSpelled : Type 0 where

@@ -16,9 +16,9 @@ pub month-is : (a b c : ℕ) → month_told (a ∷ b ∷ c ∷ []) ≡ month_nam
 unfolding month_told month_named
 month-is a b c = refl
 
-pub day-is : (a b c : ℕ) → weekday_told (a ∷ b ∷ c ∷ []) ≡ day_named (a ∷ b ∷ c ∷ [])
+pub day_is_named : (a b c : ℕ) → weekday_told (a ∷ b ∷ c ∷ []) ≡ day_named (a ∷ b ∷ c ∷ [])
 unfolding weekday_told day_named
-day-is a b c = refl
+day_is_named a b c = refl
 
 is-some : {X : Type 0} (b : Bool) (x : X) → is_some (cond b (Some x) None) ≡ b
 is-some true x = refl
@@ -35,9 +35,9 @@ lt-any p (x ∷ xs) = by (p x) (position_or_len p xs) (length xs) (list_any p xs
 some-any : {X : Type 0} (p : X → Bool) (xs : List X) → is_some (position p xs) ≡ list_any p xs
 some-any p xs = is-some (nat_lt (position_or_len p xs) (length xs)) (position_or_len p xs) ∙ lt-any p xs
 
-pub weekday-is : (a b c : ℕ) → is_some (weekday_told (a ∷ b ∷ c ∷ [])) ≡ is_weekday (a ∷ b ∷ c ∷ [])
+pub weekday_is : (a b c : ℕ) → is_some (weekday_told (a ∷ b ∷ c ∷ [])) ≡ is_weekday (a ∷ b ∷ c ∷ [])
 unfolding is_weekday day_named
-weekday-is a b c = ap is_some (day-is a b c) ∙ some-any (is_name (a ∷ b ∷ c ∷ [])) day_names
+weekday_is a b c = ap is_some (day_is_named a b c) ∙ some-any (is_name (a ∷ b ∷ c ∷ [])) day_names
 
 -- a name of letters is told by letters alone
 like-letter : (a x : ℕ) → (to_ascii_lowercase a == to_ascii_lowercase x) ≡ true → is_ascii_alphabetic x ≡ true → is_ascii_alphabetic a ≡ true
@@ -46,16 +46,8 @@ like-letter a x e h = grind (arith, nat_tests)
 like-letters : (a b c : ℕ) (name : List ℕ) → is_name (a ∷ b ∷ c ∷ []) name ≡ true → list_all is_ascii_alphabetic name ≡ true → AreThreeLetters (a ∷ b ∷ c ∷ [])
 like-letters a b c [] e h = absurd cc
 like-letters a b c (x ∷ []) e h = absurd (let p = both (to_ascii_lowercase a == to_ascii_lowercase x) false e in cc)
-like-letters a b c (x ∷ y ∷ []) e h =
-    absurd (let p = both (to_ascii_lowercase a == to_ascii_lowercase x) _ e in let q = both (to_ascii_lowercase b == to_ascii_lowercase y) false p.1 in cc)
-like-letters a b c (x ∷ y ∷ z ∷ more) e h =
-    let p = both (to_ascii_lowercase a == to_ascii_lowercase x) _ e in
-    let q = both (to_ascii_lowercase b == to_ascii_lowercase y) _ p.1 in
-    let r = both (to_ascii_lowercase c == to_ascii_lowercase z) _ q.1 in
-    let i = both (is_ascii_alphabetic x) _ h in
-    let j = both (is_ascii_alphabetic y) _ i.1 in
-    let k = both (is_ascii_alphabetic z) _ j.1 in
-    join _ _ (join _ _ (like-letter a x p.0 i.0) (like-letter b y q.0 j.0)) (like-letter c z r.0 k.0)
+like-letters a b c (x ∷ y ∷ []) e h = grind (arith, both)
+like-letters a b c (x ∷ y ∷ z ∷ more) e h = grind (arith, both, join, like-letter)
 
 -- what passes for each of some names
 pub all-at : (p : List ℕ → Bool) (names : List (List ℕ)) (k : ℕ) → list_all p names ≡ true → k < length names → p (get_or names k []) ≡ true
@@ -78,9 +70,9 @@ month-has-letters a b c found e =
     by None e = tt
     by (Some k) e = letters-at a b c month_names k refl e
 
-pub day-has-letters : (a b c : ℕ) → is_weekday (a ∷ b ∷ c ∷ []) ≡ true → AreThreeLetters (a ∷ b ∷ c ∷ [])
+pub day_has_letters : (a b c : ℕ) → is_weekday (a ∷ b ∷ c ∷ []) ≡ true → AreThreeLetters (a ∷ b ∷ c ∷ [])
 unfolding is_weekday
-day-has-letters a b c e = by (position (is_name (a ∷ b ∷ c ∷ [])) day_names) refl (some-any (is_name (a ∷ b ∷ c ∷ [])) day_names ∙ e)
+day_has_letters a b c e = by (position (is_name (a ∷ b ∷ c ∷ [])) day_names) refl (some-any (is_name (a ∷ b ∷ c ∷ [])) day_names ∙ e)
   where
     by : (o : Option ℕ) → position (is_name (a ∷ b ∷ c ∷ [])) day_names ≡ o → is_some o ≡ true → AreThreeLetters (a ∷ b ∷ c ∷ [])
     by None e h = absurd cc

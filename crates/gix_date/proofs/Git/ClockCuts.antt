@@ -1,5 +1,6 @@
 -- What each cut of a clock gives, and that the first of them is the cut by places.
-use Rattle.std.proofs.Common.{◌≡◌, ℕ, ◌+◌, ◌-◌, ◌<◌, ◌≤◌, Bool, true, false, cond, List, [], ◌∷◌, ◌++◌, length, get_or, take, drop, refl, sym, ap, ◌∙◌, subst, Option, Some, None, arith, add-zero}
+use Rattle.std.proofs.lemmas.Grind.{common_steps}
+use Rattle.std.proofs.Common.{◌≡◌, ℕ, ◌-◌, ◌<◌, ◌≤◌, Bool, true, false, cond, List, [], ◌∷◌, ◌++◌, length, get_or, take, drop, refl, sym, ap, ◌∙◌, subst, Option, Some, None, arith, add-zero}
 use Rattle.std.proofs.lemmas.Bool.{eqb-true as eq_from}
 use Rattle.std.proofs.Math.Seq.{get_or-append_seam, take-append_seam}
 use Rattle.std.proofs.lemmas.Bool.Decides.{nat_tests}
@@ -19,9 +20,7 @@ space_none u e = ap (λ r. r >>= cut_at_space_place u) (sym e)
 
 pub space_low : (u : List ℕ) (k : ℕ) → Some k ≡ last_space u → k ≤ 5 → cut_at_space u ≡ None
 unfolding cut_at_space
-space_low u k e low =
-    let test : nat_lt 5 k ≡ false = grind (arith, nat_tests, low) in
-    ap (λ r. r >>= cut_at_space_place u) (sym e) ∙ ap (λ b. cond (b && is_sign (slice_index (trimmed_after u k) 0)) (Some (take k u, trimmed_after u k)) None) test
+space_low u k e low = grind (arith, nat_tests)
 
 pick_none : (a b : Bool) (x : List ℕ × List ℕ) → b ≡ false → cond (a && b) (Some x) None ≡ None
 pick_none true b x h = ap (λ c. cond c (Some x) None) h
@@ -29,16 +28,14 @@ pick_none false b x h = refl
 
 pub space_unsigned : (u o : List ℕ) (k : ℕ) → Some k ≡ last_space u → o ≡ trimmed_after u k → is_sign (slice_index o 0) ≡ false → cut_at_space u ≡ None
 unfolding cut_at_space
-space_unsigned u o k e f h = ap (λ r. r >>= cut_at_space_place u) (sym e) ∙ pick_none (nat_lt 5 k) _ _ (ap (λ x. is_sign (slice_index x 0)) (sym f) ∙ h)
+space_unsigned u o k e f h = grind (arith, pick_none)
 
 pick_both : (a b : Bool) (x y : List ℕ × List ℕ) → a ≡ true → b ≡ true → x ≡ y → cond (a && b) (Some x) None ≡ Some y
 pick_both a b x y g h e = ap (λ c. cond (c && b) (Some x) None) g ∙ ap (λ c. cond c (Some x) None) h ∙ ap Some e
 
 pub space_found : (u o t : List ℕ) (k : ℕ) → Some k ≡ last_space u → o ≡ trimmed_after u k → t ≡ take k u → 5 < k → is_sign (slice_index o 0) ≡ true → cut_at_space u ≡ Some (t, o)
 unfolding cut_at_space
-space_found u o t k e f g high h =
-    ap (λ r. r >>= cut_at_space_place u) (sym e)
-    ∙ pick_both (nat_lt 5 k) (is_sign (slice_index (trimmed_after u k) 0)) (take k u, trimmed_after u k) (t, o) (grind (arith, nat_tests, high)) (ap (λ x. is_sign (slice_index x 0)) (sym f) ∙ h) (ap (λ x. (x, trimmed_after u k)) (sym g) ∙ ap (λ x. (t, x)) (sym f))
+space_found u o t k e f g high h = grind (arith, pick_both, nat_tests)
 
 pub sign_none : (u : List ℕ) → None ≡ last_sign u → cut_at_sign u ≡ None
 unfolding cut_at_sign
@@ -46,11 +43,11 @@ sign_none u e = ap (λ r. option_map (λ place. (take place u, drop place u)) r)
 
 pub sign_found : (u t o : List ℕ) (k : ℕ) → Some k ≡ last_sign u → t ≡ take k u → o ≡ drop k u → cut_at_sign u ≡ Some (t, o)
 unfolding cut_at_sign
-sign_found u t o k e f g = ap (λ r. option_map (λ place. (take place u, drop place u)) r) (sym e) ∙ ap (λ x. Some (x, drop k u)) (sym f) ∙ ap (λ x. Some (t, x)) (sym g)
+sign_found u t o k e f g = grind (arith)
 
 pub z_found : (u t : List ℕ) (r : Bool) → r ≡ true → r ≡ (slice_index u (length u - 1) == letter_z) → t ≡ take (length u - 1) u → cut_at_z u ≡ Some (t, letter_z ∷ [])
 unfolding cut_at_z
-z_found u t r h e f = ap (λ b. cond b (Some (take (length u - 1) u, letter_z ∷ [])) None) (sym e ∙ h) ∙ ap (λ x. Some (x, letter_z ∷ [])) (sym f)
+z_found u t r h e f = grind (arith)
 
 pub z_none : (u : List ℕ) (r : Bool) → r ≡ false → r ≡ (slice_index u (length u - 1) == letter_z) → cut_at_z u ≡ None
 unfolding cut_at_z
@@ -61,14 +58,10 @@ read_nonempty [] i h = absurd (omega (arith, h))
 read_nonempty (x ∷ xs) i h = omega arith
 
 ends : (u : List ℕ) → get_or u (length u - 1) 0 ≡ letter_z → u ≡ take (length u - 1) u ++ letter_z ∷ []
-ends u h =
-    let long : 0 < length u = read_nonempty u (length u - 1) h in
-    end_from_reads 0 u (letter_z ∷ []) (omega arith) (λ i l. let first : i ≡ 0 = omega arith in ap (λ j. get_or u (length u - 1 + j) 0) first ∙ ap (λ j. get_or u j 0) (add-zero (length u - 1)) ∙ h ∙ ap (λ j. get_or (letter_z ∷ []) j 0) (sym first))
+ends u h = grind (arith, nat_tests, common_steps, read_nonempty, end_from_reads, add-zero)
 
 z_last : (u front : List ℕ) → u ≡ front ++ letter_z ∷ [] → get_or u (length u - 1) 0 ≡ letter_z
-z_last u front e =
-    let place : length u - 1 ≡ length front = omega (arith, ap length e, length-append front (letter_z ∷ [])) in
-    ap (λ i. get_or u i 0) place ∙ ap (λ x. get_or x (length front) 0) e ∙ get_or-append_seam front letter_z [] 0
+z_last u front e = grind (arith, nat_tests, common_steps, length-append, get_or-append_seam)
 
 -- each part by the test or the place
 no_z : (u : List ℕ) → (get_or u (length u - 1) 0 == letter_z) ≡ false → ¬ (EndsInZ u)
@@ -126,21 +119,13 @@ cut_means u clock offset e = subst (IsCutPair u) (sym e) (by_z u _ refl)
 
 -- The other way round: a text is cut where the facts say.
 take_z : (front : List ℕ) → take (length (front ++ letter_z ∷ []) - 1) (front ++ letter_z ∷ []) ≡ front
-take_z front =
-    let place : length (front ++ letter_z ∷ []) - 1 ≡ length front = omega (arith, length-append front (letter_z ∷ [])) in
-    ap (λ n. take n (front ++ letter_z ∷ [])) place ∙ take-append_seam front (letter_z ∷ [])
+take_z front = grind (arith, nat_tests, common_steps, length-append, take-append_seam)
 
 cut_z : (u front : List ℕ) → u ≡ front ++ letter_z ∷ [] → cut_at_z u ≡ Some (front, letter_z ∷ [])
-cut_z u front e =
-    let last : (slice_index u (length u - 1) == letter_z) ≡ true = ap (λ c. c == letter_z) (z_last u front e) in
-    z_found u front true refl (sym last) (sym (ap (λ (x : List ℕ). take (length x - 1) x) e ∙ take_z front))
+cut_z u front e = grind (arith, z_last, z_found, take_z)
 
 none_z : (u : List ℕ) → ¬ (EndsInZ u) → cut_at_z u ≡ None
-none_z u n = z_none u false refl (by (get_or u (length u - 1) 0 == letter_z) refl)
-  where
-    by : (b : Bool) → (get_or u (length u - 1) 0 == letter_z) ≡ b → false ≡ b
-    by true e = absurd (n (take (length u - 1) u, ends u (eq_from _ letter_z e)))
-    by false e = refl
+none_z u n = grind (arith, nat_tests, common_steps, z_none, ends, eq_from)
 
 cut_space : (u : List ℕ) (k : ℕ) → CutsAtSpace u k → cut_at_space u ≡ Some (take k u, trimmed_after u k)
 unfolding last_space
@@ -148,11 +133,7 @@ cut_space u k c = space_found u (trimmed_after u k) (take k u) k (sym (last_is (
 
 none_space : (u : List ℕ) → ¬ ((j : ℕ) × CutsAtSpace u j) → cut_at_space u ≡ None
 unfolding cut_at_space
-none_space u n = by (cut_at_space u) refl
-  where
-    by : (r : Option (List ℕ × List ℕ)) → cut_at_space u ≡ r → r ≡ None
-    by None e = refl
-    by (Some y) e = let s = space_at u (last_space u) refl y e in absurd (n (s.0, s.1))
+none_space u n = grind (arith, space_at)
 
 cut_sign : (u : List ℕ) (k : ℕ) → CutsAtSign u k → cut_at_sign u ≡ Some (take k u, drop k u)
 unfolding last_sign
@@ -160,11 +141,7 @@ cut_sign u k c = sign_found u (take k u) (drop k u) k (sym (last_is (has_offset_
 
 none_sign : (u : List ℕ) → ¬ ((j : ℕ) × CutsAtSign u j) → cut_at_sign u ≡ None
 unfolding last_sign
-none_sign u n = by (last_place (has_offset_at u) (length u)) refl
-  where
-    by : (r : Option ℕ) → last_sign u ≡ r → cut_at_sign u ≡ None
-    by None e = sign_none u (sym e)
-    by (Some k) e = absurd (n (k, is_last (has_offset_at u) (length u) k e))
+none_sign u n = grind (arith, sign_none, is_last)
 
 first_cut : (u : List ℕ) (a b c : Option Cut) → cut_at_z u ≡ a → cut_at_space u ≡ b → cut_at_sign u ≡ c → clock_cut u ≡ unwrap_or (option_or a (option_or b c)) (u, [])
 unfolding clock_cut

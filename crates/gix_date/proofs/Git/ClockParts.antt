@@ -1,15 +1,14 @@
 -- The parts of a clock.
-use Rattle.std.proofs.Common.{◌≡◌, ℕ, ◌<◌, ◌≤◌, ◌^◌, Bool, true, false, cond, List, [], ◌∷◌, length, get_or, take, refl, sym, ap, ◌∙◌, Some, None, Result, Ok, Err, arith}
+use Rattle.std.proofs.Common.{◌≡◌, ℕ, ◌<◌, ◌≤◌, ◌^◌, Bool, true, false, cond, List, [], ◌∷◌, length, take, refl, sym, ap, ◌∙◌, Some, None, Result, Ok, Err, arith}
 use Rattle.std.proofs.lemmas.Bool.{not-true as unpassed}
 use Rattle.std.proofs.Math.Seq.{take-length}
 use Rattle.std.proofs.lemmas.Bool.Decides.{nat_tests}
-use Rattle.std.proofs.lemmas.List.Elements.{All-from_get_or}
 use Rattle.std.proofs.lemmas.List.Splits.{slice_split_first, slice_split_none}
 use Rattle.std.proofs.lemmas.List.Sums.{prefix_len_passes, prefix_len-le-length}
 use Rattle.std.proofs.lemmas.Str.Parse.{parse_digits}
 use Rattle.std.specs.Char.{is_ascii_digit}
 use Rattle.std.specs.List.{list_all, slice_split, before_first, after_first, position_or_len}
-use Rattle.std.specs.Prelude.{not, nat_lt, ◌&&◌}
+use Rattle.std.specs.Prelude.{nat_lt, ◌&&◌}
 use Rattle.std.specs.Result.{result_ok}
 use Rattle.std.specs.Str.{all_ascii_digits}
 use Rattle.std.specs.Str.Parse.{ParsesUnsigned, digits_value}
@@ -40,9 +39,7 @@ field_yes most (c ∷ cs) h long = ap (λ b. cond b (at_most most (digits_value 
 big : (most : ℕ) (t : List ℕ) → list_all is_ascii_digit t ≡ true → most < 2 ^ 32 → ((0 < length t) × (digits_value 10 t < 2 ^ 32) → ⊥) → None ≡ digits_at_most most t
 unfolding digits_at_most
 big most [] d fits h = refl
-big most (c ∷ cs) d fits h =
-    let none : digits_value 10 (c ∷ cs) < 2 ^ 32 → ⊥ = λ small. h (omega arith, small) in
-    above most (digits_value 10 (c ∷ cs)) (omega (arith, none)) ∙ ap (λ b. cond b (at_most most (digits_value 10 (c ∷ cs))) None) (sym d)
+big most (c ∷ cs) d fits h = grind (arith, above)
 
 -- what `parse` of a u32 gives at digits
 pub field_none : {E : Type 0} (most : ℕ) (t : List ℕ) (r : Result ℕ E) → list_all is_ascii_digit t ≡ true → most < 2 ^ 32 → ParsesUnsigned 32 10 t r → None ≡ result_ok r → None ≡ digits_at_most most t
@@ -50,10 +47,7 @@ field_none most t (Ok n) d fits h e = cc
 field_none most t (Err x) d fits h e = big most t d fits (parse_digits own 32 t (Err x) h (sym (all_digits t) ∙ d))
 
 read_some : {E : Type 0} (n : ℕ) (t : List ℕ) (r : Result ℕ E) → list_all is_ascii_digit t ≡ true → ParsesUnsigned 32 10 t r → Some n ≡ result_ok r → (n ≡ digits_value 10 t) × (0 < length t)
-read_some {E} n t (Ok m) d h e =
-    let same : n ≡ m = cc in
-    let read = parse_digits own {E = E} 32 t (Ok m) h (sym (all_digits t) ∙ d) in
-    (same ∙ read.1, read.0.0)
+read_some {E} n t (Ok m) d h e = grind (arith, parse_digits, own, all_digits)
 read_some n t (Err x) d h e = cc
 
 pub field_above : {E : Type 0} (most n : ℕ) (t : List ℕ) (r : Result ℕ E) → list_all is_ascii_digit t ≡ true → ParsesUnsigned 32 10 t r → Some n ≡ result_ok r → most < n → None ≡ digits_at_most most t
@@ -71,11 +65,11 @@ pub before_none : (p : ℕ → Bool) (t : List ℕ) → position_or_len p t ≡ 
 before_none p t e = ap (λ n. take n t) e ∙ take-length t
 
 pub one_part : (p : ℕ → Bool) (t : List ℕ) → position_or_len p t ≡ length t → slice_split p t ≡ t ∷ []
-one_part p t e = slice_split_none p t (All-from_get_or (λ x. p x ≡ false) t 0 (λ i l. unpassed (p (get_or t i 0)) (prefix_len_passes (λ x. not (p x)) t i 0 (omega arith))))
+one_part p t e = grind (arith, slice_split_none, unpassed, prefix_len_passes)
 
 -- the first part, and the parts after it
 pub more_parts : (p : ℕ → Bool) (t front rest : List ℕ) → position_or_len p t < length t → front ≡ before_first p t → rest ≡ after_first p t → slice_split p t ≡ front ∷ slice_split p rest
-more_parts p t front rest l e f = slice_split_first p t 0 l ∙ ap (λ x. x ∷ slice_split p (after_first p t)) (sym e) ∙ ap (λ x. front ∷ slice_split p x) (sym f)
+more_parts p t front rest l e f = grind (arith, slice_split_first)
 
 pub by_one : (t : List ℕ) → position_or_len is_colon t ≡ length t → clock_of_fields (digits_at_most 23 t) (Some 0) (Some 0) ≡ clock_with_colons t
 unfolding clock_with_colons
@@ -88,10 +82,7 @@ by_two t h m e f = ap (λ ps. clock_of_parts (h ∷ ps)) (sym (one_part is_colon
 -- by the test whether an element passes
 first_by : (p : ℕ → Bool) (t : List ℕ) (b : Bool) → nat_lt (position_or_len p t) (length t) ≡ b → (more : List (List ℕ)) × (slice_split p t ≡ before_first p t ∷ more)
 first_by p t true e = (slice_split p (after_first p t), slice_split_first p t 0 (grind (arith, nat_tests, e)))
-first_by p t false e =
-    let far : length t ≤ position_or_len p t = grind (arith, nat_tests, e) in
-    let all : position_or_len p t ≡ length t = omega (arith, far, prefix_len-le-length (λ x. not (p x)) t) in
-    ([], one_part p t all ∙ ap (λ x. x ∷ []) (sym (before_none p t all)))
+first_by p t false e = grind (arith, nat_tests, prefix_len-le-length, one_part, before_none)
 
 pub by_three : (t h m r s rest : List ℕ) → slice_split is_colon t ≡ h ∷ slice_split is_colon r → slice_split is_colon r ≡ m ∷ slice_split is_colon rest → s ≡ before_first is_colon rest → clock_of_fields (digits_at_most 23 h) (digits_at_most 59 m) (digits_at_most 59 s) ≡ clock_with_colons t
 unfolding clock_with_colons

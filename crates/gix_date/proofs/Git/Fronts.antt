@@ -1,4 +1,5 @@
 -- What the front of a Git text takes: a date, and the gap after it.
+use Rattle.std.proofs.Common.{arith}
 use Rattle.std.proofs.Common.{◌≡◌, ◌∙◌, ℕ, List, [], ◌∷◌, ◌++◌, refl, ap, sym, subst, Some, Option, inl, inr, append_assoc}
 use Rattle.std.proofs.lemmas.Option.{same_Some as same_some}
 use Rattle.std.specs.Option.{option_or}
@@ -61,11 +62,7 @@ keeps x rest e = same_some x rest e
 
 pub gap-taken : (read : List ℕ → ReadFront DateFields) (gap : Gap) (x : List ℕ) (date : DateFields) (rest : List ℕ)
     → read_then_gap read gap x ≡ Some (date, rest) → (left : List ℕ) × (read x ≡ Some (date, left)) × (gap left ≡ Some rest)
-gap-taken read gap x date rest e =
-    let d = went (read x) (λ (d : DateFields × List ℕ). gap d.1 >>= λ r. Some (d.0, r)) (date, rest) e in
-    let r = went (gap d.0.1) (λ (r : List ℕ). Some (d.0.0, r)) (date, rest) d.2 in
-    let same = same_some (d.0.0, r.0) (date, rest) r.2 in
-    (d.0.1, d.1 ∙ ap (λ (f : DateFields × List ℕ). Some (f.0, d.0.1)) same, r.1 ∙ ap (λ (f : DateFields × List ℕ). Some f.1) same)
+gap-taken read gap x date rest e = grind (arith, went, same_some)
 
 abbrev IsForm : List ℕ → List ℕ → DateFields → Type 0
 IsForm mark gap date = (day : List ℕ) → IsGitDate mark day date → IsGitFront day gap date

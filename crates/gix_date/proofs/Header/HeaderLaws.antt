@@ -1,5 +1,6 @@
 -- The laws of header texts.
-use Rattle.std.proofs.Common.{◌≡◌, ◌∙◌, ◌+◌, ◌-◌, ◌*◌, ◌/◌, ◌%◌, ◌<◌, ◌≤◌, ◌^◌, ℕ, ℤ, pos, negsuc, Bool, true, false, cond, List, [], ◌∷◌, ◌++◌, length, take, drop, get_or, refl, ap, ap₂, sym, subst, Some, None, arith, inl, inr, Option, unsigned_abs, FitsSigned, w64, neg_ℤ, zero, suc, ◌≢◌, add-one, IsSomeAnd, IsUtf8}
+use Rattle.std.proofs.lemmas.Grind.{common_steps}
+use Rattle.std.proofs.Common.{◌≡◌, ◌∙◌, ◌+◌, ◌-◌, ◌*◌, ◌/◌, ◌%◌, ◌<◌, ◌≤◌, ◌^◌, ℕ, ℤ, pos, negsuc, Bool, true, false, cond, List, [], ◌∷◌, ◌++◌, length, take, drop, get_or, refl, ap, ap₂, sym, subst, Some, None, arith, inl, inr, Option, unsigned_abs, FitsSigned, w64, zero, suc, ◌≢◌, add-one, IsSomeAnd, IsUtf8}
 use Rattle.std.proofs.lemmas.Option.{cond_some as guard, same_Some as same_some}
 use Rattle.std.proofs.Math.Seq.{take-append_seam}
 use Rattle.std.proofs.lemmas.Bool.{and_parts as both, not-true as not_false, ne_eqb as other, false_from_ne_true as false-unless}
@@ -14,21 +15,21 @@ use Rattle.std.proofs.lemmas.Slice.Eq.{bytes_eq-Decides}
 use Rattle.std.proofs.Math.ListN.{drop_of_length-le}
 use Rattle.std.specs.Fmt.{decimal}
 use Rattle.std.specs.List.{before_first, after_first, position_or_len}
-use Rattle.std.specs.Prelude.{◌&&◌, not, nat_lt, int_lt, take_while, codes, is_none, if◌then◌else◌}
+use Rattle.std.specs.Prelude.{◌&&◌, not, nat_lt, int_lt, codes, is_none, if◌then◌else◌}
 use Rattle.std.specs.Option.{option_map_or, option_or}
 use Rattle.std.specs.Char.{is_ascii_digit}
-use Rattle.std.specs.Str.{all_ascii_digits, bytes_eq}
-use Rattle.std.specs.Str.Parse.{without_leading_sign, signed_digits_value, digits_value, IsNumeral}
+use Rattle.std.specs.Str.{bytes_eq}
+use Rattle.std.specs.Str.Parse.{without_leading_sign, signed_digits_value, digits_value}
 use Rattle.gix_date.specs.Fields.FieldTexts.{IsSign, IsDigit}
 use Rattle.gix_date.specs.Header.Canonical.{is_canonical_header, is_canonical_offset, is_decimal_text, has_whole_minutes}
 use Rattle.gix_date.specs.Text.Characters.{space, plus, minus, is_space, has_colon}
 use Rattle.gix_date.specs.Header.Laws.{ComesBack}
-use Rattle.gix_date.specs.Header.Reading.{header_time, time_of_words, header_seconds, header_offset}
-use Rattle.gix_date.specs.Text.SpaceWords.{space_words, first_words}
+use Rattle.gix_date.specs.Header.Reading.{header_time, time_of_words, header_seconds}
+use Rattle.gix_date.specs.Text.SpaceWords.{space_words}
 use Rattle.gix_date.specs.Header.Text.{header_text, is_header_text_of}
 use Rattle.gix_date.specs.Fields.Offsets.{compact_offset_text, offset_sign, hours_and_minutes, offset_fields, offset_of, signed, read_sign, last_pair}
-use Rattle.gix_date.specs.Text.Numbers.{int_value, fits_i64, decimal_text, two_digits, read_two_digits}
-use Rattle.gix_date.specs.Text.Front.{skip_char, ◌>>=◌}
+use Rattle.gix_date.specs.Text.Numbers.{int_value, decimal_text, two_digits, read_two_digits}
+use Rattle.gix_date.specs.Text.Front.{skip_char}
 use Rattle.gix_date.specs.declared.parsing.offset.OffsetFields.{OffsetFields}
 use Rattle.gix_date.specs.declared.parsing.offset.Sign.{Sign}
 use Rattle.gix_date.specs.declared.parsing.offset.Sign.TheVariants.{Plus, Minus}
@@ -62,14 +63,10 @@ unfolding offset_fields read_sign skip_char
 no_fields = refl
 
 fields-within : (text : List ℕ) (f : OffsetFields) → offset_fields (after_first is_space text) ≡ Some f → position_or_len is_space text < length text
-fields-within text f e =
-    let long : length text ≤ position_or_len is_space text + 1 → ⊥ = λ l.
-    let empty : after_first is_space text ≡ [] = drop_of_length-le text l in
-    let clash : Some f ≡ None = sym e ∙ ap offset_fields empty ∙ no_fields in cc in
-    omega (arith, long)
+fields-within text f e = grind (arith, drop_of_length-le, no_fields)
 
-pub canonical-taken : (text : List ℕ) → is_canonical_header text ≡ true → IsCanonical text
-canonical-taken text e =
+pub canonical_taken : (text : List ℕ) → is_canonical_header text ≡ true → IsCanonical text
+canonical_taken text e =
     let before = before_first is_space text in
     let after = after_first is_space text in
     let parts = both (is_decimal_text before) (is_canonical_offset after) e in
@@ -101,16 +98,10 @@ digit_high : (c : ℕ) → IsDigit c → c ≤ 57
 digit_high c h = grind (arith, nat_tests, h)
 
 pair-back : (a b n : ℕ) → IsDigit a → IsDigit b → n ≡ 10 * (a - 48) + (b - 48) → two_digits n ≡ a ∷ b ∷ []
-pair-back a b n p q e =
-    let tens : 48 + n / 10 ≡ a = omega (arith, digit_low a p, digit_high a p, digit_low b q, digit_high b q) in
-    let ones : 48 + n % 10 ≡ b = omega (arith, digit_low a p, digit_high a p, digit_low b q, digit_high b q) in
-    rw (tens, ones) refl
+pair-back a b n p q e = grind (arith, digit_low, digit_high)
 
 hours-back : (h m : ℕ) → m < 60 → hours_and_minutes (3600 * h + 60 * m) ≡ two_digits h ++ two_digits m
-hours-back h m small =
-    let hours : (3600 * h + 60 * m) / 3600 ≡ h = omega arith in
-    let minutes : (3600 * h + 60 * m) % 3600 / 60 ≡ m = omega arith in
-    rw (hours, minutes) refl
+hours-back h m small = grind (arith)
 
 plus-sign : (n : ℕ) → offset_sign (pos n) ≡ plus
 plus-sign n = let no : int_lt (pos n) (pos 0) ≡ false = grind (arith, ints) in rw no refl
@@ -127,17 +118,7 @@ distance-is : (f : OffsetFields) → f.seconds ≡ None → offset_of f ≡ sign
 distance-is f e = let n : 3600 * f.hours + 60 * f.minutes + 0 ≡ whole_distance f = omega arith in rw (e, n) refl
 
 minus-zero : (x : List ℕ) (f : OffsetFields) (o : IsOffsetText x f) → f.seconds ≡ None → f.sign ≡ Minus → whole_distance f ≡ 0 → x ≡ codes "-0000"
-minus-zero x f o e s z =
-    let a : o.h0 ≡ 48 = omega (arith, o.hours, digit_low o.h0 o.is_h0, digit_low o.h1 o.is_h1) in
-    let b : o.h1 ≡ 48 = omega (arith, o.hours, digit_low o.h0 o.is_h0, digit_low o.h1 o.is_h1) in
-    let c : o.m0 ≡ 48 = omega (arith, o.minutes, digit_low o.m0 o.is_m0, digit_low o.m1 o.is_m1) in
-    let d : o.m1 ≡ 48 = omega (arith, o.minutes, digit_low o.m0 o.is_m0, digit_low o.m1 o.is_m1) in
-    let m : o.mark ≡ minus = mark_of o.mark f.sign o.is_mark s in
-    o.whole ∙ rw (m, a, b, c, d, o.is_last.none e) refl
-  where
-    mark_of : (c : ℕ) (s : Sign) → IsSign c s → s ≡ Minus → c ≡ minus
-    mark_of c s (inl p) e = let clash : Plus ≡ Minus = sym p.1 ∙ e in absurd cc
-    mark_of c s (inr p) e = p.0
+minus-zero x f o e s z = grind (arith, digit_low)
 
 zone-back : (x : List ℕ) (f : OffsetFields) → IsOffsetText x f → f.minutes < 60 → f.seconds ≡ None → bytes_eq x (codes "-0000") ≡ false → compact_offset_text (offset_of f) ≡ x
 zone-back x f o small e other =
@@ -161,8 +142,8 @@ written-by t h = let yes : nat_lt (unsigned_abs t.offset) HUNDRED_HOURS ≡ true
 hours-small : (x : List ℕ) (f : OffsetFields) → IsOffsetText x f → f.hours < 100
 hours-small x f o = omega (arith, o.hours, digit_high o.h0 o.is_h0, digit_high o.h1 o.is_h1)
 
-pub canonical-back : (text : List ℕ) → IsCanonical text → ComesBack text
-canonical-back text k =
+pub canonical_back : (text : List ℕ) → IsCanonical text → ComesBack text
+canonical_back text k =
     let f = k.fields in
     let o = offset-taken k.zone f k.is_jiff_offset in
     let abs : unsigned_abs (offset_of f) ≡ whole_distance f = ap (λ (z : ℤ). unsigned_abs z) (distance-is f k.none) ∙ abs-signed f.sign (whole_distance f) in
@@ -176,11 +157,10 @@ canonical-back text k =
 
 -- A decimal text is read.
 front-digit : (n : ℕ) → n < 2 ^ 64 → (c : ℕ) → (c < 48) → get_or (decimal n) 0 0 ≢ c
-front-digit n h c low = not_in_digits own (decimal n) c (own.from (decimal n) (decimal_is_IsNumeral n h).0.1) (λ r. omega (arith, r)) 0 (decimal_nonempty n h)
+front-digit n h c low = grind (arith, nat_tests, common_steps, not_in_digits, own, decimal_is_IsNumeral, decimal_nonempty)
 
 bare-text : (n : ℕ) → n < 2 ^ 64 → without_leading_sign (decimal n) ≡ decimal n
-bare-text n h =
-    rw (other _ 45 (front-digit n h 45 (omega arith)), other _ 43 (front-digit n h 43 (omega arith))) refl
+bare-text n h = grind (arith, other, front-digit)
 
 bare-value : (n : ℕ) → n < 2 ^ 64 → signed_digits_value 10 (decimal n) ≡ pos n
 bare-value n h =
@@ -188,21 +168,12 @@ bare-value n h =
     rw (other _ 45 (front-digit n h 45 (omega arith)), other _ 43 (front-digit n h 43 (omega arith)), value) refl
 
 pub decimal-int : (z : ℤ) → FitsSigned w64 z → int_value (decimal_text z) ≡ Some z
-decimal-int (pos n) f =
-    let small : n < 2 ^ 64 = omega (arith, f.sfits) in
-    let numeral : IsNumeral 10 (without_leading_sign (decimal n)) = rw (bare-text n small) (decimal_is_IsNumeral n small).0 in
-    int_value_from (decimal n) (pos n) numeral (bare-value n small) f
-decimal-int (negsuc n) f =
-    let small : suc n < 2 ^ 64 = omega (arith, f.sfits) in
-    let numeral = decimal_is_IsNumeral (suc n) small in
-    int_value_from (decimal_text (negsuc n)) (negsuc n) numeral.0 (ap (λ (k : ℕ). neg_ℤ (pos k)) numeral.1) f
+decimal-int (pos n) f = grind (arith, bare-text, decimal_is_IsNumeral, int_value_from, bare-value)
+decimal-int (negsuc n) f = grind (arith, decimal_is_IsNumeral, int_value_from)
 
 -- What is read fits.
 int-fits : (w : List ℕ) (z : ℤ) → int_value w ≡ Some z → FitsSigned w64 z
-int-fits w z e =
-    let h = int-taken w z e in
-    let parts = each_of (nat_lt 0 (length (without_leading_sign w))) (all_ascii_digits (without_leading_sign w)) (fits_i64 (signed_digits_value 10 w)) h.0 in
-    subst (FitsSigned w64) h.1 (fits_from (signed_digits_value 10 w) parts.2)
+int-fits w z e = grind (arith, int-taken, each_of, fits_from)
 
 said-fits : (w v : List ℕ) (a b : Option ℤ) (z : ℤ) → int_value w ≡ a → int_value v ≡ b → option_or a b ≡ Some z → FitsSigned w64 z
 said-fits w v (Some y) b z e f h = int-fits w z (e ∙ h)
@@ -210,11 +181,7 @@ said-fits w v None b z e f h = int-fits v z (f ∙ h)
 
 words-fit : (words : List (List ℕ)) (t : Time) → time_of_words words ≡ Some t → FitsSigned w64 t.seconds
 unfolding time_of_words header_seconds
-words-fit words t e =
-    let first = went (first_words words) (λ first. header_seconds first.0 >>= λ s. Some (time_at s (option_map_or header_offset first.1 (pos 0)))) t e in
-    let seconds = went (header_seconds first.0.0) (λ s. Some (time_at s (option_map_or header_offset first.0.1 (pos 0)))) t first.2 in
-    let same : seconds.0 ≡ t.seconds = ap (λ (t : Time). t.seconds) (same_some _ t seconds.2) in
-    subst (FitsSigned w64) same (said-fits first.0.0 (take_while is_ascii_digit first.0.0) (int_value first.0.0) (int_value (take_while is_ascii_digit first.0.0)) seconds.0 refl refl seconds.1)
+words-fit words t e = grind (arith, went, time_at, same_some, said-fits)
 
 unless : (b : Bool) (r : Option Time) (t : Time) → cond b None r ≡ Some t → r ≡ Some t
 unless true r t e = absurd cc
@@ -242,15 +209,11 @@ is-digit n h = grind (arith, nat_tests, h)
 
 pub two-read : (n : ℕ) (rest : List ℕ) → n < 100 → read_two_digits (two_digits n ++ rest) ≡ Some (n, rest)
 unfolding read_two_digits
-two-read n rest h =
-    let value : 10 * (48 + n / 10 - 48) + (48 + n % 10 - 48) ≡ n = omega arith in
-    rw (is-digit (n / 10) (omega arith), is-digit (n % 10) (omega arith), value) refl
+two-read n rest h = grind (arith, is-digit)
 
 pub zone-read : (o : ℤ) → unsigned_abs o < 360000 → offset_fields (compact_offset_text o) ≡ Some (written_fields o)
 unfolding offset_fields last_pair
-zone-read o h =
-    let minutes = unsigned_abs o % 3600 / 60 in
-    rw (sign-read (int_lt o (pos 0)) (hours_and_minutes (unsigned_abs o)), two-read (unsigned_abs o / 3600) (two_digits minutes) (omega arith), two-read minutes [] (omega arith)) refl
+zone-read o h = grind (arith, sign-read, two-read)
 
 -- The first space of a written header.
 byte-no-space : (c : ℕ) → is_number_byte c ≡ true → is_space c ≡ false
@@ -279,7 +242,7 @@ two-utf8 front zone a b = IsUtf8-from_ascii (front ++ (space ∷ zone)) (IsAscii
 -- a canonical header is text
 pub canonical-utf8 : (text : List ℕ) → is_canonical_header text ≡ true → IsUtf8 text
 canonical-utf8 text e =
-    let k = canonical-taken text e in
+    let k = canonical_taken text e in
     subst IsUtf8 (sym k.whole) (two-utf8 k.front k.zone (number-bytes k.front (int-number k.front k.seconds k.is_seconds)) (number-bytes k.zone (offset-number k.zone k.fields k.is_jiff_offset)))
 
 pub small-minutes : (n : ℕ) → nat_lt (n % 3600 / 60) 60 ≡ true
@@ -294,12 +257,7 @@ read-minus-zero = refl
 
 -- an offset that is what its text says is not written `-0000`
 no-minus-zero : (o : ℤ) → unsigned_abs o < 360000 → o ≡ offset_of (written_fields o) → bytes_eq (compact_offset_text o) (codes "-0000") ≡ false
-no-minus-zero o h e = false-unless (bytes_eq (compact_offset_text o) (codes "-0000")) (λ yes.
-    let same : compact_offset_text o ≡ codes "-0000" = (bytes_eq-Decides (compact_offset_text o) (codes "-0000")).0 yes in
-    let fields : written_fields o ≡ minus_zero_fields = same_some _ _ (sym (zone-read o h) ∙ ap offset_fields same ∙ read-minus-zero) in
-    let zero_is : o ≡ pos 0 = e ∙ ap (λ (f : OffsetFields). offset_of f) fields in
-    let clash : Plus ≡ Minus = ap (λ (o : ℤ). sign_for (int_lt o (pos 0))) (sym zero_is) ∙ ap (λ (f : OffsetFields). f.sign) fields in
-    cc)
+no-minus-zero o h e = grind (arith, false-unless, bytes_eq-Decides, same_some, zone-read, read-minus-zero)
 
 pub canonical-parts : (x front zone : List ℕ) → before_first is_space x ≡ front → after_first is_space x ≡ zone → is_decimal_text front ≡ true → is_canonical_offset zone ≡ true → is_canonical_header x ≡ true
 canonical-parts x front zone e f d o = ap₂ (λ (a b : Bool). a && b) (ap is_decimal_text e ∙ d) (ap is_canonical_offset f ∙ o)
@@ -308,9 +266,7 @@ pub decimal-test : (w : List ℕ) (z : ℤ) → int_value w ≡ Some z → decim
 decimal-test w z e h = rw e ((bytes_eq-Decides (decimal_text z) w).1 h)
 
 offset-test : (o : ℤ) → unsigned_abs o < 360000 → bytes_eq (compact_offset_text o) (codes "-0000") ≡ false → is_canonical_offset (compact_offset_text o) ≡ true
-offset-test o h e =
-    let fields : option_map_or has_whole_minutes (offset_fields (compact_offset_text o)) false ≡ true = rw (zone-read o h, small-minutes (unsigned_abs o)) refl in
-    ap₂ (λ (a b : Bool). a && not b) fields e
+offset-test o h e = grind (arith, zone-read, small-minutes)
 
 -- What is written is canonical, where it is read as the time that was written.
 written-canonical : (t : Time) → header_time (decimal_text t.seconds ++ (space ∷ compact_offset_text t.offset)) ≡ Some t → unsigned_abs t.offset < 360000 → is_canonical_header (decimal_text t.seconds ++ (space ∷ compact_offset_text t.offset)) ≡ true
@@ -325,24 +281,17 @@ written-canonical t e h =
 
 written-taken : (t : Time) (text : List ℕ) → header_text t ≡ Some text → (unsigned_abs t.offset < 360000) × (decimal_text t.seconds ++ (space ∷ compact_offset_text t.offset) ≡ text)
 unfolding header_text
-written-taken t text e =
-    let g = guard (nat_lt (unsigned_abs t.offset) HUNDRED_HOURS) (decimal_text t.seconds ++ (space ∷ compact_offset_text t.offset)) text e in
-    (grind (arith, nat_tests, g.0), g.1)
+written-taken t text e = grind (arith, guard, nat_tests)
 
-pub comes-back-canonical : (text : List ℕ) → ComesBack text → is_canonical_header text ≡ true
-comes-back-canonical text k =
-    let w = written-taken k.time text k.is_written in
-    sym (ap is_canonical_header w.1) ∙ written-canonical k.time (ap header_time w.1 ∙ k.is_read) w.0
+pub comes_back_canonical : (text : List ℕ) → ComesBack text → is_canonical_header text ≡ true
+comes_back_canonical text k = grind (arith, written-taken, written-canonical)
 
 -- Which times are written alike.
 abbrev pub whole_minutes : ℤ → ℕ
 whole_minutes o = unsigned_abs o / 60
 
 zone-of-minutes : (a b : ℤ) → int_lt a (pos 0) ≡ int_lt b (pos 0) → whole_minutes a ≡ whole_minutes b → compact_offset_text a ≡ compact_offset_text b
-zone-of-minutes a b s m =
-    let hours : unsigned_abs a / 3600 ≡ unsigned_abs b / 3600 = omega (arith, m) in
-    let minutes : unsigned_abs a % 3600 / 60 ≡ unsigned_abs b % 3600 / 60 = omega (arith, m) in
-    rw (s, hours, minutes) refl
+zone-of-minutes a b s m = grind (arith)
 
 sign-back : (a b : Bool) → sign_for a ≡ sign_for b → a ≡ b
 sign-back true false e = cc
@@ -350,17 +299,14 @@ sign-back false true e = cc
 sign-back a b e = refl
 
 minutes-of-fields : (a b : ℤ) → written_fields a ≡ written_fields b → (int_lt a (pos 0) ≡ int_lt b (pos 0)) × (whole_minutes a ≡ whole_minutes b)
-minutes-of-fields a b e =
-    let hours : unsigned_abs a / 3600 ≡ unsigned_abs b / 3600 = ap (λ (f : OffsetFields). f.hours) e in
-    let minutes : unsigned_abs a % 3600 / 60 ≡ unsigned_abs b % 3600 / 60 = ap (λ (f : OffsetFields). f.minutes) e in
-    (sign-back _ _ (ap (λ (f : OffsetFields). f.sign) e), omega (arith, hours, minutes))
+minutes-of-fields a b e = grind (arith, sign-back)
 
-pub alike-from : (t r : Time) → unsigned_abs t.offset < 360000 → unsigned_abs r.offset < 360000 → t.seconds ≡ r.seconds → int_lt t.offset (pos 0) ≡ int_lt r.offset (pos 0) → whole_minutes t.offset ≡ whole_minutes r.offset → header_text t ≡ header_text r
-alike-from t r h k s n m = written-by t h ∙ ap₂ (λ (z : ℤ) (x : List ℕ). Some (decimal_text z ++ (space ∷ x))) s (zone-of-minutes t.offset r.offset n m) ∙ sym (written-by r k)
+pub alike_from : (t r : Time) → unsigned_abs t.offset < 360000 → unsigned_abs r.offset < 360000 → t.seconds ≡ r.seconds → int_lt t.offset (pos 0) ≡ int_lt r.offset (pos 0) → whole_minutes t.offset ≡ whole_minutes r.offset → header_text t ≡ header_text r
+alike_from t r h k s n m = grind (arith, written-by, zone-of-minutes)
 
-pub alike-to : (t r : Time) → FitsSigned w64 t.seconds → FitsSigned w64 r.seconds → unsigned_abs t.offset < 360000 → unsigned_abs r.offset < 360000 → header_text t ≡ header_text r
+pub alike_to : (t r : Time) → FitsSigned w64 t.seconds → FitsSigned w64 r.seconds → unsigned_abs t.offset < 360000 → unsigned_abs r.offset < 360000 → header_text t ≡ header_text r
     → (t.seconds ≡ r.seconds) × (int_lt t.offset (pos 0) ≡ int_lt r.offset (pos 0)) × (whole_minutes t.offset ≡ whole_minutes r.offset)
-alike-to t r f g h k e =
+alike_to t r f g h k e =
     let a = decimal_text t.seconds in
     let b = decimal_text r.seconds in
     let x = compact_offset_text t.offset in
@@ -378,38 +324,21 @@ alike-to t r f g h k e =
 
 -- A written time is read.
 pub back-to : (o : ℤ) → unsigned_abs o % 60 ≡ 0 → offset_of (written_fields o) ≡ o
-back-to (pos n) h =
-    let no : int_lt (pos n) (pos 0) ≡ false = grind (arith, ints) in
-    let whole : 3600 * (n / 3600) + 60 * (n % 3600 / 60) + 0 ≡ n = omega (arith, h) in
-    rw (no, whole) refl
-back-to (negsuc n) h =
-    let whole : 3600 * (suc n / 3600) + 60 * (suc n % 3600 / 60) + 0 ≡ suc n = omega (arith, h) in
-    rw whole refl
+back-to (pos n) h = grind (arith, ints)
+back-to (negsuc n) h = grind (arith)
 
-pub written-is-read : (t : Time) → FitsSigned w64 t.seconds → unsigned_abs t.offset < 360000 → unsigned_abs t.offset % 60 ≡ 0 → IsSomeAnd (header_text t) (λ text. header_time text ≡ Some t)
-written-is-read t f h m =
+pub written_text_is_read : (t : Time) → FitsSigned w64 t.seconds → unsigned_abs t.offset < 360000 → unsigned_abs t.offset % 60 ≡ 0 → IsSomeAnd (header_text t) (λ text. header_time text ≡ Some t)
+written_text_is_read t f h m =
     let front = decimal_text t.seconds in
     let zone = compact_offset_text t.offset in
     let read : header_time (front ++ (space ∷ zone)) ≡ Some t = usual-header front zone t.seconds (written_fields t.offset) (decimal-int t.seconds f) (zone-read t.offset h) ∙ ap (λ (o : ℤ). Some (time_at t.seconds o)) (back-to t.offset m) in
     subst (λ (r : Option (List ℕ)). IsSomeAnd r (λ text. header_time text ≡ Some t)) (sym (written-by t h)) read
 
 -- A text that is read as a time is canonical exactly where it is what that time is written as.
-pub canonical-written : (text : List ℕ) (t : Time) → header_time text ≡ Some t → is_header_text_of t text ≡ is_canonical_header text
-canonical-written text t e = by-test (is_canonical_header text) (header_text t) refl refl
-  where
-    back : (written : Option (List ℕ)) → header_text t ≡ written → option_map_or (λ w. bytes_eq w text) written false ≡ true → ComesBack text
-    back None f h = absurd cc
-    back (Some w) f h = record { time = t; is_read = e; is_written = f ∙ ap Some ((bytes_eq-Decides w text).0 h) }
-
-    by-test : (canonical : Bool) (written : Option (List ℕ)) → is_canonical_header text ≡ canonical → header_text t ≡ written → option_map_or (λ w. bytes_eq w text) written false ≡ canonical
-    by-test false written c f = false-unless _ (λ h. let clash : false ≡ true = sym c ∙ comes-back-canonical text (back written f h) in absurd cc)
-    by-test true written c f =
-        let k = canonical-back text (canonical-taken text c) in
-        let same : k.time ≡ t = same_some k.time t (sym k.is_read ∙ e) in
-        let is : written ≡ Some text = sym f ∙ ap header_text (sym same) ∙ k.is_written in
-        rw is ((bytes_eq-Decides text text).1 refl)
+pub canonical_written : (text : List ℕ) (t : Time) → header_time text ≡ Some t → is_header_text_of t text ≡ is_canonical_header text
+canonical_written text t e = grind (arith, bytes_eq-Decides, false-unless, comes_back_canonical, canonical_back, canonical_taken, same_some)
 
 -- A text that is read as no time is not canonical.
-pub not-canonical : (text : List ℕ) → header_time text ≡ None → false ≡ is_canonical_header text
-not-canonical text e = sym (false-unless _ (λ c.
-    let clash : None ≡ Some _ = sym e ∙ (canonical-back text (canonical-taken text c)).is_read in absurd cc))
+pub no_time_not_canonical : (text : List ℕ) → header_time text ≡ None → false ≡ is_canonical_header text
+no_time_not_canonical text e = sym (false-unless _ (λ c.
+    let clash : None ≡ Some _ = sym e ∙ (canonical_back text (canonical_taken text c)).is_read in absurd cc))

@@ -1,12 +1,10 @@
 -- How long a header text is, and where there is one.
-use Rattle.std.proofs.Common.{◌≡◌, ℕ, ◌+◌, ◌∷◌, Bool, true, false, cond, List, length, arith, length-append, refl, Some, None, Err, ℤ, pos, negsuc, ◌<◌}
+use Rattle.std.proofs.Common.{◌≡◌, ℕ, ◌+◌, Bool, true, false, cond, List, length, arith, length-append, refl, Some, None, Err, ℤ, pos, negsuc, ◌<◌}
 use Rattle.std.proofs.lemmas.Bool.Decides.{nat_tests}
 use Rattle.std.proofs.lemmas.Int.{ints}
 use Rattle.std.specs.Prelude.{IfSome, IsSome, unsigned_abs, nat_lt}
 use Rattle.jiff.specs.Words.{IsOffsetSeconds}
-use Rattle.gix_date.specs.Text.Characters.{space}
 use Rattle.gix_date.specs.Header.Text.{header_text}
-use Rattle.gix_date.specs.Fields.Offsets.{compact_offset_text}
 use Rattle.gix_date.specs.Text.Numbers.{decimal_text}
 use Rattle.gix_date.specs.Header.TimeBuf.{HoldsText}
 use Rattle.gix_date.specs.declared.error.Error.{Error}
@@ -19,11 +17,9 @@ some_of true xs P h = h
 some_of false xs P h = tt
 
 -- six bytes more than its seconds
-pub length-header_text : (t : Time) (n : ℕ) → n ≡ length (decimal_text t.seconds) + 6 → IfSome (header_text t) (λ text. n ≡ length text)
+pub length_header_text : (t : Time) (n : ℕ) → n ≡ length (decimal_text t.seconds) + 6 → IfSome (header_text t) (λ text. n ≡ length text)
 unfolding header_text
-length-header_text t n h =
-    let after = space ∷ compact_offset_text t.offset in
-    some_of (nat_lt (unsigned_abs t.offset) HUNDRED_HOURS) _ (λ text. n ≡ length text) (omega (arith, h, length-append (decimal_text t.seconds) after))
+length_header_text t n h = grind (arith, some_of, length-append)
 
 is_some_of : (b : Bool) (xs : List ℕ) → b ≡ true → IsSome (cond b (Some xs) None)
 is_some_of true xs h = refl

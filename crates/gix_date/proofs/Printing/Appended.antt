@@ -26,6 +26,6 @@ pub names-joined : (weekday month day rest : List ℕ)
 names-joined weekday month day rest = simp append_assoc refl
 
 -- more after the day of the month
-pub dates-joined : (weekday month day rest more : List ℕ)
+pub dates_joined : (weekday month day rest more : List ℕ)
     → (weekday ++ (space ∷ (month ++ (space ∷ (day ++ rest))))) ++ more ≡ weekday ++ (space ∷ (month ++ (space ∷ (day ++ (rest ++ more)))))
-dates-joined weekday month day rest more = simp append_assoc refl
+dates_joined weekday month day rest more = simp append_assoc refl

@@ -1,5 +1,6 @@
 -- What a time's own clock shows is what each moment of it shows.
-use Rattle.std.proofs.Common.{◌≡◌, ◌∙◌, ◌≤◌, ◌<◌, ◌+◌, ◌-◌, ◌*◌, ◌/◌, ◌%◌, ℕ, suc, Bool, true, false, nat_lt, if◌then◌else◌, ℤ, pos, neg_ℤ, ◌+ℤ◌, ◌-ℤ◌, ◌*ℤ◌, ◌≤ℤ◌, ◌<ℤ◌, unsigned_abs, refl, sym, ap, subst, arith}
+use Rattle.std.proofs.Common.{rules}
+use Rattle.std.proofs.Common.{◌≡◌, ◌∙◌, ◌≤◌, ◌<◌, ◌+◌, ◌-◌, ◌*◌, ◌/◌, ◌%◌, ℕ, Bool, true, false, nat_lt, if◌then◌else◌, ℤ, pos, neg_ℤ, ◌+ℤ◌, ◌-ℤ◌, ◌*ℤ◌, ◌≤ℤ◌, ◌<ℤ◌, unsigned_abs, refl, sym, ap, subst, arith}
 use Rattle.std.proofs.lemmas.Bool.Decides.{nat_tests}
 use Rattle.std.proofs.lemmas.Int.{by_lt_z}
 use Rattle.std.specs.Int.{int_rem_euclid}
@@ -7,7 +8,7 @@ use Rattle.jiff.specs.Types.{Date, Offset, PlainZoned}
 use Rattle.jiff.proofs.ZoneFacts.{offset_at-fixed_zone}
 use Rattle.jiff.specs.Words.{plain_zoned, nanos_of_seconds, fixed_zone, IsTimestampNanos, IsCivilNanos}
 use Rattle.gix_date.proofs.Fields.DateTimes.{datetime_exists}
-use Rattle.jiff_core.specs.Calendar.{IsYear, IsCivilDate, day_count, weekday_number}
+use Rattle.jiff_core.specs.Calendar.{IsCivilDate, day_count, weekday_number}
 use Rattle.jiff_core.specs.Date.{epoch_day}
 use Rattle.jiff_core.specs.March.{march_days}
 use Rattle.jiff_core.proofs.CalendarLemmas.{days_from_civil-day_count, day_count-later_year, day_count-day_of_year, day_of_year_bound}
@@ -37,34 +38,18 @@ IsDateAt n (y, m, d) = IsCivilDate y m d × (day_count y m d ≡ n)
 
 date-late : (year before n : ℕ) → march_days year + before + 60 ≡ n → before < 366 → n ≤ 7_304_849 → 366 ≤ n
     → march_month before ≤ 12 → IsDateAt n (pos year -ℤ pos 10_000, march_month before, march_day before)
-date-late year before n e short last first month =
-    let y = pos year -ℤ pos 10_000 in
-    let count = day_count-late y year (march_month before) (march_day before) (omega (arith, signed_arith)) (omega arith) month (omega arith) in
-    let in_year : IsYear y = (omega (arith, signed_arith, e, first), omega (arith, signed_arith, e, last)) in
-    ((in_year, (omega arith, month), (omega arith, day_in_month y before month)), omega (arith, count, month_and_day before short, e))
+date-late year before n e short last first month = grind (arith, day_count-late, signed_arith, day_in_month, month_and_day)
 
 date-early : (year before n : ℕ) → march_days year + before + 60 ≡ n → before < 366 → n < march_days (year + 1) + 60
     → n ≤ 7_304_849 → 366 ≤ n → 12 < march_month before
     → IsDateAt n (pos (year + 1) -ℤ pos 10_000, march_month before - 12, march_day before)
-date-early year before n e short within last first month =
-    let y = pos (year + 1) -ℤ pos 10_000 in
-    let shift : y +ℤ pos 10_000 ≡ pos (suc year) = omega (arith, signed_arith) in
-    let back : march_month before - 12 + 12 ≡ march_month before = omega arith in
-    let count =
-    day_count-early y year (march_month before - 12) (march_day before) shift (omega arith) (omega arith) (omega arith) in
-    let in_year : IsYear y = (omega (arith, signed_arith, e, first), omega (arith, signed_arith, e, last, month)) in
-    let next : year + 1 ≡ suc year = omega arith in
-    let long : before < 365 + leap_day y =
-    omega (arith, march_days-suc year, leap_day-shift y (suc year) shift, rw next at within, e) in
-    ((in_year, (omega arith, omega arith), (omega arith, day_in_early_month y before month long)), omega (arith, rw back at count, month_and_day before short, e))
+date-early year before n e short within last first month = grind (arith, signed_arith, day_count-early, leap_day, march_days-suc, leap_day-shift, day_in_early_month, month_and_day)
 
 date-by : (year before n : ℕ) (b : Bool) → nat_lt 12 (march_month before) ≡ b → march_days year + before + 60 ≡ n
     → before < 366 → n < march_days (year + 1) + 60 → n ≤ 7_304_849 → 366 ≤ n
     → IsDateAt n (if b then (pos (year + 1) -ℤ pos 10_000, march_month before - 12, march_day before) else (pos year -ℤ pos 10_000, march_month before, march_day before))
-date-by year before n true test e short within last first =
-    date-early year before n e short within last first (grind (arith, nat_tests, test))
-date-by year before n false test e short within last first =
-    date-late year before n e short last first (grind (arith, nat_tests, test))
+date-by year before n true test e short within last first = search (rules, date-early, nat_tests)
+date-by year before n false test e short within last first = search (rules, date-late, nat_tests)
 
 date-at : (n : ℕ) → 366 ≤ n → n ≤ 7_304_849 → IsDateAt n (january_date (march_year (n - 60)))
 date-at n first last =
@@ -93,8 +78,8 @@ pub record Shows (z : PlainZoned) (t : Time) : Type 0 where
   pub instant : z.timestamp.nanosecond ≡ nanos_of_seconds t.seconds
   pub offset_is : z.offset.seconds ≡ t.offset
 
-pub day-shown : (z : PlainZoned) (t : Time) → Shows z t → local_day t ≡ epoch_day z.datetime.date
-day-shown z t h =
+pub day_shown : (z : PlainZoned) (t : Time) → Shows z t → local_day t ≡ epoch_day z.datetime.date
+day_shown z t h =
     omega (arith, signed_arith, z.shows, h.instant, h.offset_is, civil_nanos-parts z.datetime, time_nanos_bound z.datetime.time)
 
 second-shown : (z : PlainZoned) (t : Time) → Shows z t
@@ -103,10 +88,10 @@ second-shown z t h =
     let subsec = z.datetime.time.subsec_in in
     omega (arith, signed_arith, z.shows, h.instant, h.offset_is, civil_nanos-parts z.datetime, time_nanos_bound z.datetime.time, one_part (int_rem_euclid (local_seconds t) (pos 86_400)), subsec)
 
-pub clock-shown : (z : PlainZoned) (t : Time) → Shows z t → local_time z ≡ clock_of t
+pub clock_is_shown : (z : PlainZoned) (t : Time) → Shows z t → local_time z ≡ clock_of t
 unfolding clock_of
-clock-shown z t h =
-    let day = day-shown z t h in
+clock_is_shown z t h =
+    let day = day_shown z t h in
     let second = second-shown z t h in
     let hour_in = z.datetime.time.hour_in in
     let minute_in = z.datetime.time.minute_in in
@@ -195,16 +180,4 @@ pub clock-by : (t : Time) (day : ℤ) (date : Date) (year second weekday : ℕ) 
     → clock.hour ≡ hours_in second → clock.minute ≡ minutes_in second → clock.second ≡ second % 60
     → ◌≡◌ {A = LocalTime} (record { weekday = weekday; date = record { year = year; month = date.month; day = date.day }; clock = clock; offset = t.offset }) (clock_of t)
 unfolding clock_of
-clock-by t day date year second weekday clock is_day at is_year is_second is_weekday hour minute last =
-    let same : (date.year, date.month, date.day) ≡ date_of_day (local_day t) = sym (date-of-day date) ∙ ap (λ (d : ℤ). date_of_day d) (at ∙ is_day) in
-    let y : year ≡ unsigned_abs (date_of_day (local_day t)).0 = is_year ∙ ap (λ (r : ℤ × ℕ × ℕ). unsigned_abs r.0) same in
-    let w : weekday ≡ weekday_number (local_day t) = is_weekday ∙ ap (λ (n : ℤ). weekday_number n) is_day in
-    let h = hour ∙ ap (λ (n : ℕ). hours_in n) is_second in
-    let m = minute ∙ ap (λ (n : ℕ). minutes_in n) is_second in
-    let s = last ∙ ap (λ (n : ℕ). n % 60) is_second in
-    λ i. record {
-      weekday = w i;
-      date = record { year = y i; month = (same i).1; day = (same i).2 };
-      clock = record { hour = h i; minute = m i; second = s i };
-      offset = t.offset;
-    }
+clock-by t day date year second weekday clock is_day at is_year is_second is_weekday hour minute last = grind (arith, date-of-day)

@@ -1,4 +1,5 @@
 -- What the named patterns show: the pieces of their layouts.
+use Rattle.std.proofs.Common.{rules}
 use Rattle.std.proofs.Common.{◌≡◌, ◌∙◌, ℕ, ℤ, pos, ◌-◌, ◌<◌, true, false, nat_lt, List, [], ◌∷◌, ◌++◌, Option, Ok, Result, refl, ap, codes, arith, get_or, lit<, replicate, zero, suc, unsigned_abs, sym}
 use Rattle.std.proofs.lemmas.List.{append-nil}
 use Rattle.std.proofs.lemmas.Str.{IsAscii-append}
@@ -15,7 +16,7 @@ use Rattle.jiff_strtime.specs.Directive.{read_flag, colon_rest}
 use Rattle.jiff_strtime.specs.Number.{fold_digits}
 use Rattle.jiff_strtime.specs.Show.{Shown, show_format, show_steps, directive_text, text_of, offset_text, weekday_name, short}
 use Rattle.jiff_strtime.specs.Text.{month_names as full_names}
-use Rattle.gix_date.specs.Text.Characters.{space, comma, colon, minus, letter_t}
+use Rattle.gix_date.specs.Text.Characters.{space, comma, colon, letter_t}
 use Rattle.gix_date.specs.Fields.Layout.{LocalTime, Piece, DayName, Rfc2822DayName, MonthName, Day, Year, PlainDate, Clock, Rfc2822Clock, Spaces, LetterT, Offset, ColonOffset, Rfc2822Offset, print_piece, print_pieces}
 use Rattle.gix_date.specs.Text.Names.{day_name, month_names}
 use Rattle.gix_date.specs.Text.Numbers.{two_digits}
@@ -76,9 +77,9 @@ piece-shown {jiff_day} {day} d Rfc2822DayName t r = rw (weekday-short t.weekday)
 piece-shown {jiff_day} {day} d MonthName t r = alone _ _ (short_of full_names (t.date.month - 1))
 piece-shown {jiff_day} {day} d Day t r = alone _ _ (d.same t.date.day r.day)
 piece-shown {jiff_day} {day} d Year t r = alone _ _ (number-four t.date.year r.low r.high)
-piece-shown {jiff_day} {day} d PlainDate t r = rw (number-four t.date.year r.low r.high, number-two t.date.month r.month, number-two t.date.day r.day) refl
-piece-shown {jiff_day} {day} d Clock t r = rw (number-two t.clock.hour r.hour, number-two t.clock.minute r.minute, number-two t.clock.second r.second) refl
-piece-shown {jiff_day} {day} d Rfc2822Clock t r = rw (number-two t.clock.hour r.hour, number-two t.clock.minute r.minute, number-two t.clock.second r.second) refl
+piece-shown {jiff_day} {day} d PlainDate t r = grind (arith, number-four, number-two)
+piece-shown {jiff_day} {day} d Clock t r = grind (arith, number-two)
+piece-shown {jiff_day} {day} d Rfc2822Clock t r = grind (arith, number-two)
 piece-shown {jiff_day} {day} d Spaces t r = refl
 piece-shown {jiff_day} {day} d LetterT t r = refl
 piece-shown {jiff_day} {day} d Offset t r = alone _ _ (zone-is t.offset r.whole r.hours)
@@ -99,7 +100,7 @@ mark b h t a = IsAscii-cons b t h a
 
 clock-ascii : (t : LocalTime) → InRange t
     → IsAscii (two_digits t.clock.hour ++ colon ∷ two_digits t.clock.minute ++ colon ∷ two_digits t.clock.second)
-clock-ascii t r = search (IsAscii-append, ascii-two t.clock.hour r.hour, ascii-two t.clock.minute r.minute, ascii-two t.clock.second r.second, mark colon (lit< tt)) depth 24
+clock-ascii t r = grind (arith, ascii-two, mark)
 
 piece-ascii : {jiff_day day : ℕ → List ℕ} → ShowsDay jiff_day day → (p : Piece) (t : LocalTime) → InRange t
     → IsAscii (print_piece day p t)
@@ -108,7 +109,7 @@ piece-ascii {jiff_day} {day} d Rfc2822DayName t r = IsAscii-append (day_name t.w
 piece-ascii {jiff_day} {day} d MonthName t r = name_ascii month_names (t.date.month - 1) refl
 piece-ascii {jiff_day} {day} d Day t r = d.ascii t.date.day r.day
 piece-ascii {jiff_day} {day} d Year t r = ascii-four t.date.year r.high
-piece-ascii {jiff_day} {day} d PlainDate t r = search (IsAscii-append, ascii-four t.date.year r.high, ascii-two t.date.month r.month, ascii-two t.date.day r.day, mark minus (lit< tt)) depth 24
+piece-ascii {jiff_day} {day} d PlainDate t r = grind (arith, ascii-four, ascii-two, mark)
 piece-ascii {jiff_day} {day} d Clock t r = clock-ascii t r
 piece-ascii {jiff_day} {day} d Rfc2822Clock t r = clock-ascii t r
 piece-ascii {jiff_day} {day} d Spaces t r = mark space (lit< tt) [] IsAscii-nil
@@ -152,9 +153,7 @@ pub record IsTextOf (pattern : List ℕ) (text : LocalTime → List ℕ) : Type 
 
 by-pieces : (pattern : List ℕ) {jiff_day day : ℕ → List ℕ} → ShowsDay jiff_day day → (ps : List Piece) (blanks : ℕ)
     → ShowsPieces pattern jiff_day ps blanks → IsTextOf pattern (λ t. print_pieces day ps t)
-by-pieces pattern {jiff_day} {day} d ps blanks shows =
-    let shown = always pattern d ps blanks shows in
-    record { only = shows-text pattern (λ t. print_pieces day ps t) shown (λ z o. pieces-ascii d ps (local_time z) (in-range z o)); always = shown }
+by-pieces pattern {jiff_day} {day} d ps blanks shows = search (rules, shown, always, shows-text, pieces-ascii, in-range)
 
 -- by each of the seven patterns
 pub record AreTexts : Type 0 where

@@ -14,15 +14,7 @@ are_pairs n (tens ∷ ones ∷ rest) = tens == 48 + n / 10 && (ones == 48 + n % 
 pair-from : (first n : ℕ) (table : List ℕ) → are_pairs first table ≡ true → 2 * n + 2 ≤ length table → get_or table (2 * n) 0 ∷ get_or table (2 * n + 1) 0 ∷ [] ≡ two_digits (first + n)
 pair-from first n [] are within = absurd (omega (arith, within))
 pair-from first n (tens ∷ []) are within = absurd (omega (arith, within))
-pair-from first zero (tens ∷ ones ∷ rest) are within =
-    let ten = tens == 48 + first / 10 in
-    let one = ones == 48 + first % 10 in
-    let more = are_pairs (suc first) rest in
-    let both = and_parts ten (one && more) are in
-    let tens_are : tens ≡ 48 + first / 10 = eqb-true tens (48 + first / 10) both.0 in
-    let ones_are : ones ≡ 48 + first % 10 = eqb-true ones (48 + first % 10) (and_parts one more both.1).0 in
-    let same : first ≡ first + 0 = omega arith in
-    ap₂ (λ (a b : ℕ). a ∷ b ∷ []) tens_are ones_are ∙ ap (λ (n : ℕ). two_digits n) same
+pair-from first zero (tens ∷ ones ∷ rest) are within = grind (arith, and_parts, eqb-true)
 pair-from first (suc n) (tens ∷ ones ∷ rest) are within =
     let ten = tens == 48 + first / 10 in
     let one = ones == 48 + first % 10 in
@@ -33,7 +25,7 @@ pair-from first (suc n) (tens ∷ ones ∷ rest) are within =
     let same : suc first + n ≡ first + suc n = omega arith in
     ap₂ (λ (j k : ℕ). get_or (tens ∷ ones ∷ rest) j 0 ∷ get_or (tens ∷ ones ∷ rest) k 0 ∷ []) at after ∙ pair-from (suc first) n rest rest_are (omega (arith, within)) ∙ ap (λ (n : ℕ). two_digits n) same
 
-pub pair-at : (n : ℕ) → n < 100 → get_or PAIRS.now (2 * n) 0 ∷ get_or PAIRS.now (2 * n + 1) 0 ∷ [] ≡ two_digits n
-pair-at n small =
+pub pair_of_digits : (n : ℕ) → n < 100 → get_or PAIRS.now (2 * n) 0 ∷ get_or PAIRS.now (2 * n + 1) 0 ∷ [] ≡ two_digits n
+pair_of_digits n small =
     let same : 0 + n ≡ n = omega arith in
     pair-from 0 n PAIRS.now refl (omega arith) ∙ ap (λ (n : ℕ). two_digits n) same

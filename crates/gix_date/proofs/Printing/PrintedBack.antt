@@ -1,5 +1,7 @@
 -- What is printed of a time is parsed back, from what is printed of a zoned value.
-use Rattle.std.proofs.Common.{◌≡◌, ◌∙◌, ◌<◌, ℕ, List, Option, None, Some, String, Global, Result, Ok, Err, inl, inr, ap, sym, subst, get_or}
+use Rattle.std.proofs.Common.{arith}
+use Rattle.std.proofs.Common.{rules}
+use Rattle.std.proofs.Common.{◌≡◌, ◌∙◌, ◌<◌, ℕ, List, Option, None, Some, String, Global, Result, Ok, Err, inl, inr, ap, sym, get_or}
 use Rattle.std.specs.Fmt.{decimal}
 use Rattle.gix_date.specs.Families.Answer.{FamilyAnswer, Absolute}
 use Rattle.gix_date.specs.Families.Order.{first_family_by, answers_before_git}
@@ -16,9 +18,9 @@ use Rattle.gix_date.specs.Printing.ReadingBack.{RoundTrips, RoundTripsBy, RoundT
 use Rattle.gix_date.specs.declared.error.Error.{Error}
 use Rattle.gix_date.specs.declared.time.Time.{Time}
 use Rattle.gix_date.proofs.Fields.Layouts.{dates_spelled}
-use Rattle.gix_date.proofs.Printing.LocalClocks.{clock-shown, four-digits-from, shown-by}
+use Rattle.gix_date.proofs.Printing.LocalClocks.{clock_is_shown, four-digits-from, shown-by}
 use Rattle.gix_date.proofs.Printing.NamedTexts.{formats_printed}
-use Rattle.gix_date.proofs.Printing.PrintedTimes.{printed-as}
+use Rattle.gix_date.proofs.Printing.PrintedTimes.{printed_as}
 use Rattle.gix_date.proofs.Printing.ReadBack.{IsShownPlain, two-is, bare-is, back, first-at}
 
 -- the family stands at this place of the list, by whatever rule for raw offsets
@@ -41,21 +43,18 @@ parsed-back rule place family layout day stands spells field t h =
       within = h.within;
     } in
     let text = print_pieces day layout (local_time z) in
-    ap (λ (l : LocalTime). first_family_by rule (print_pieces day layout l)) (sym (clock-shown z t shows))
+    ap (λ (l : LocalTime). first_family_by rule (print_pieces day layout l)) (sym (clock_is_shown z t shows))
     ∙ first-at rule place text (Absolute t) (stands rule text (Absolute t) (back family layout day spells field z t plain))
 
 read-back : (rule : OffsetRule) (pattern : List ℕ) (place : ℕ) (family : List ℕ → Option FamilyAnswer) (layout : List Piece) (day : ℕ → List ℕ)
     → ShowsText pattern (λ l. print_pieces day layout l) → StandsAt place family → Accepts family (IsMeaning layout time_answer)
     → ((n : ℕ) → n < 100 → IsField (day n) n)
     → (t : Time) → RoundTrips t → RoundTripsBy rule pattern (λ l. print_pieces day layout l) t
-read-back rule pattern place family layout day shows stands spells field t h = record {
-  printed = printed-as pattern (λ l. print_pieces day layout l) shows t;
-  parsed = parsed-back rule place family layout day stands spells field t h;
-}
+read-back rule pattern place family layout day shows stands spells field t h = search (rules, printed_as, parsed-back)
 
 -- by each of the six formats
-pub round-trips-by-each : (rule : OffsetRule) (t : Time) → RoundTrips t → RoundTripsByEach rule t
-round-trips-by-each rule t h = record {
+pub round_trips_by_each : (rule : OffsetRule) (t : Time) → RoundTrips t → RoundTripsByEach rule t
+round_trips_by_each rule t h = record {
   iso8601 = read-back rule iso8601_pattern 3 iso8601_answer iso8601_layout two_digits formats_printed.iso8601.only (λ rule text x e. e) dates_spelled.iso8601 two-is t h;
   iso8601_strict = read-back rule iso8601_strict_pattern 4 iso8601_strict_answer iso8601_strict_layout two_digits formats_printed.iso8601_strict.only (λ rule text x e. e) dates_spelled.iso8601_strict two-is t h;
   rfc2822 = read-back rule rfc2822_pattern 2 rfc2822_answer rfc2822_layout two_digits formats_printed.rfc2822.only (λ rule text x e. e) dates_spelled.rfc2822 two-is t h;
@@ -72,13 +71,12 @@ text-back rule pattern text t (Err e) plain back (inr conversion) = absurd (conv
 
 by-pattern : (rule : OffsetRule) (pattern own : List ℕ) (text : LocalTime → List ℕ) (t : Time) (r : Result (String Global) Error) → RoundTrips t
     → RoundTripsBy rule pattern text t → own ≡ pattern → PrintsPattern t own r → RoundTripsAs rule t r
-by-pattern rule pattern own text t r plain back e h =
-    text-back rule pattern text t r plain back (back.printed plain.four_digits r (subst (λ p. PrintsPattern t p r) e h))
+by-pattern rule pattern own text t r plain back e h = grind (arith, text-back, back)
 
 -- by whichever of their patterns
 pub round-trips-by-pattern : (rule : OffsetRule) (t : Time) → RoundTrips t → RoundTripsByPattern rule t
 round-trips-by-pattern rule t plain own r clock h =
-    let all = round-trips-by-each rule t plain in
+    let all = round_trips_by_each rule t plain in
     elim clock [
       | inl e ↦ by-pattern rule iso8601_pattern own iso8601_text t r plain all.iso8601 e h
       | inr (inl e) ↦ by-pattern rule iso8601_strict_pattern own iso8601_strict_text t r plain all.iso8601_strict e h

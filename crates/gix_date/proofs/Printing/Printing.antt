@@ -1,4 +1,5 @@
 -- What printing comes to.
+use Rattle.std.proofs.Common.{arith}
 use Rattle.std.proofs.Common.{◌≡◌, ◌∙◌, ℕ, false, List, Some, Option, Ok, Err, Result, refl, ap, inl, inr, ◌⊎◌, String, Global}
 use Rattle.jiff.specs.Types.{PlainZoned}
 use Rattle.jiff.specs.Words.{plain_zoned}
@@ -38,7 +39,7 @@ are-printed z info abbreviation name filled h a n f =
 -- what the printer shows, and what it refuses
 pub shown-by : (pattern : List ℕ) (z : PlainZoned) (config : Config) (filled : BrokenDownTime) (shown : Shown)
     → config.locale ≡ Default → config.lenient ≡ false → ArePrinted z (parts_of filled) → IsShownAs config pattern filled shown → IsShown pattern z shown
-shown-by pattern z config filled shown l s a h = record { config = config; locale = l; strict = s; filled = filled; are_printed = a; is_shown = h }
+shown-by pattern z config filled shown l s a h = grind (arith)
 
 pub refused-by : (pattern : List ℕ) (z : PlainZoned) (config : Config) (filled : BrokenDownTime) (e : JiffError) (fault : Error)
     → config.locale ≡ Default → config.lenient ≡ false → ArePrinted z (parts_of filled)
@@ -47,8 +48,8 @@ pub refused-by : (pattern : List ℕ) (z : PlainZoned) (config : Config) (filled
     → (fault ≡ errors.Memory) ⊎ ((fault ≡ errors.Pattern) × IsUnprinted pattern z)
 refused-by pattern z config filled e fault l s a (inl memory) h = inl memory.1
 refused-by pattern z config filled e fault l s a (inr other) (inl memory) = absurd (other.0 memory)
-refused-by pattern z config filled e fault l s a (inr other) (inr (inl bad)) = inr (other.1, inr (bad.shown, shown-by pattern z config filled (Ok bad.shown) l s a bad.shown_as, bad.no_text))
-refused-by pattern z config filled e fault l s a (inr other) (inr (inr h)) = inr (other.1, inl (e, shown-by pattern z config filled (Err e) l s a h))
+refused-by pattern z config filled e fault l s a (inr other) (inr (inl bad)) = grind (arith, shown-by)
+refused-by pattern z config filled e fault l s a (inr other) (inr (inr h)) = grind (arith, shown-by)
 
 pub at-moment : (t : Time) (pattern : List ℕ) (z : Zoned) (r : Result (String Global) Error) → IsMoment t z → IsConvertible t → PrintsAt pattern (plain_zoned z) r → PrintsPattern t pattern r
 at-moment t pattern z (Ok text) m c h = (z, m, h)

@@ -34,9 +34,7 @@ few-hours : (n : ℕ) → n < 54000 → nat_le (n / 3600) 14 ≡ true
 few-hours n h = let few : n / 3600 ≤ 14 = omega arith in grind (arith, nat_tests)
 
 is-quarter-of : (o : ℤ) → unsigned_abs o % 900 ≡ 0 → unsigned_abs o < 54000 → is_quarter_offset (written_fields o) ≡ true
-is-quarter-of o m h =
-    let n = unsigned_abs o in
-    rw (few-hours n h, quarter-minutes (n % 3600 / 60) (n % 3600 / 900) (quarters n m) (omega arith)) refl
+is-quarter-of o m h = grind (arith, few-hours, quarter-minutes, quarters)
 
 hours-of-day : (n : ℕ) → n < 86400 → nat_le (n / 3600) 23 ≡ true
 hours-of-day n h = let few : n / 3600 ≤ 23 = omega arith in grind (arith, nat_tests)
@@ -68,21 +66,18 @@ back-by rule t f short minutes allowed =
     subst (λ (r : Option (List ℕ)). IsSomeAnd r (λ text. first_family_by rule text ≡ Some (Absolute t))) (sym (written-by t short))
     (raw-first-family rule text t (two-utf8 front zone (number-bytes front a) (number-bytes zone b)) same)
 
-pub raw-back : (t : Time) → FitsSigned w64 t.seconds → IsQuarterOffset t.offset
+pub raw_back : (t : Time) → FitsSigned w64 t.seconds → IsQuarterOffset t.offset
     → IsSomeAnd (header_text t) (λ text. first_family_by is_quarter_offset text ≡ Some (Absolute t))
-raw-back t f raw =
-    back-by is_quarter_offset t f (omega arith) (omega arith) (is-quarter-of t.offset raw.quarters raw.short)
+raw_back t f raw = grind (arith, back-by, is-quarter-of, quarters)
 
-pub wide-back : (t : Time) → FitsSigned w64 t.seconds → IsMinuteOffset t.offset
+pub wide_back : (t : Time) → FitsSigned w64 t.seconds → IsMinuteOffset t.offset
     → IsSomeAnd (header_text t) (λ text. first_family_by is_minute_offset text ≡ Some (Absolute t))
-wide-back t f wide =
-    let short = wide.short in
-    back-by is_minute_offset t f (omega arith) wide.minutes (rw (hours-of-day (unsigned_abs t.offset) short, minutes-of-hour (unsigned_abs t.offset)) refl)
+wide_back t f wide = grind (arith, back-by, hours-of-day, minutes-of-hour)
 
 -- bare seconds
-pub seconds-back : (rule : OffsetRule) (n : ℤ) → FitsSigned w64 n → MIN_EPOCH ≤ℤ n → first_family_by rule (decimal_text n) ≡ Some (Absolute (utc_time n))
+pub seconds_back : (rule : OffsetRule) (n : ℤ) → FitsSigned w64 n → MIN_EPOCH ≤ℤ n → first_family_by rule (decimal_text n) ≡ Some (Absolute (utc_time n))
 unfolding epoch_time
-seconds-back rule n f least =
+seconds_back rule n f least =
     let h : le_z MIN_EPOCH n ≡ true = search rules in
     let text = decimal_text n in
     let int = decimal-int n f in

@@ -1,21 +1,22 @@
 -- The texts of the named formats are parsed back.
+use Rattle.std.proofs.lemmas.Grind.{common_steps}
 use Rattle.std.proofs.Common.{◌≡◌, ◌∙◌, ◌/◌, ◌%◌, ◌<◌, ◌≤◌, ℕ, ℤ, pos, ◌*ℤ◌, ◌+ℤ◌, true, false, List, [], ◌∷◌, ◌++◌, filter, length, refl, ap, sym, subst, arith, Some, None, Option, is_some, inl, inr, unsigned_abs, zero, suc, get_or, drop}
 use Rattle.std.proofs.lemmas.Bool.Decides.{nat_tests}
 use Rattle.std.proofs.lemmas.Bool.{cases_order}
 use Rattle.std.proofs.lemmas.Fmt.{decimal_digit}
 use Rattle.std.specs.Fmt.{decimal}
 use Rattle.gix_date.specs.Families.Patterns.{time_answer, IsMeaning, Accepts, date_answer}
-use Rattle.std.specs.Prelude.{◌==◌, nat_lt, nat_le, int_lt}
+use Rattle.std.specs.Prelude.{◌==◌}
 use Rattle.jiff.specs.Types.{PlainZoned}
 use Rattle.jiff_core.proofs.DateTimeLemmas.{civil_nanos-parts}
 use Rattle.jiff_core.proofs.SignedLemmas.{signed_arith, one_part}
-use Rattle.std.specs.Int.{IsInRange, int_rem_euclid}
-use Rattle.jiff_core.specs.Calendar.{IsDate, days_in_month, weekday_number}
+use Rattle.std.specs.Int.{int_rem_euclid}
+use Rattle.jiff_core.specs.Calendar.{IsDate, weekday_number}
 use Rattle.jiff_core.specs.Date.{IsYmd, weekday_of, epoch_day}
 use Rattle.jiff_core.specs.Time.{IsTime, IsHms}
 use Rattle.jiff_core.specs.Timestamp.{IsTimestampNanos, nanos_of_seconds}
 use Rattle.gix_date.specs.Families.Answer.{FamilyAnswer, Absolute}
-use Rattle.gix_date.specs.Text.Characters.{space, colon}
+use Rattle.gix_date.specs.Text.Characters.{space}
 use Rattle.gix_date.specs.Fields.Civil.{civil_instant, civil_seconds}
 use Rattle.gix_date.specs.Families.Order.{first_answer_of, family_answers, answers_before_git, first_family_by}
 use Rattle.gix_date.specs.Fields.FieldTexts.{IsField, IsYear, AreSpaces, IsDayName, IsMonthName, IsPlainDate, IsClock, four_digits, date_text, clock_text}
@@ -44,25 +45,11 @@ local-ymd z o = (o.year_is ∙ ap (λ (v : ℤ). pos (unsigned_abs v)) (sym o.ye
 
 pub date-of : (z : PlainZoned) → ShowsFourDigitFields z
     → IsDate (pos (local_time z).date.year) (pos (local_time z).date.month) (pos (local_time z).date.day)
-date-of z o =
-    let year : z.datetime.date.year ≡ pos (unsigned_abs z.datetime.date.year) = (local-ymd z o).0 in
-    let year_in = z.datetime.date.year_in in
-    let month_in = z.datetime.date.month_in in
-    let day_in = subst (λ (y : ℤ). IsInRange 1 (days_in_month y z.datetime.date.month) z.datetime.date.day) year z.datetime.date.day_in in
-    ((omega (arith, signed_arith, o.low, o.high, year, o.year_is, year_in), omega (arith, signed_arith, o.low, o.high, year, o.year_is, year_in)), (omega (arith, signed_arith, month_in), omega (arith, signed_arith, month_in)), (omega (arith, signed_arith, day_in), omega (arith, signed_arith, day_in)))
+date-of z o = grind (arith, local-ymd, signed_arith)
 
 clock-of : (z : PlainZoned)
     → IsTime (pos (local_time z).clock.hour) (pos (local_time z).clock.minute) (pos (local_time z).clock.second) (pos 0)
-clock-of z =
-    let time = z.datetime.time in
-    let h = time.hour_in in
-    let m = time.minute_in in
-    let s = time.second_in in (
-      (omega (arith, signed_arith, h), omega (arith, signed_arith, h)),
-      (omega (arith, signed_arith, m), omega (arith, signed_arith, m)),
-      (omega (arith, signed_arith, s), omega (arith, signed_arith, s)),
-      (omega (arith, signed_arith), omega (arith, signed_arith)),
-    )
+clock-of z = grind (arith, nat_tests, common_steps, signed_arith)
 
 whole-clock : (z : PlainZoned) (seconds : ℤ) → z.timestamp.nanosecond ≡ nanos_of_seconds seconds
     → z.datetime.time.subsec_nanosecond ≡ 0
@@ -93,15 +80,10 @@ pub two-is : (n : ℕ) → n < 100 → IsField (two_digits n) n
 two-is n h = (is-digit (n / 10) (omega arith), is-digit (n % 10) (omega arith), omega arith)
 
 pub bare-is : (n : ℕ) → n < 100 → IsField (decimal n) n
-bare-is n h =
-    elim (cases_order n 10) [
-      | inr (inl small) ↦ subst (λ (t : List ℕ). IsField t n) (sym (decimal_digit n small)) (is-digit n small, omega arith)
-      | inl ten ↦ subst (λ (t : List ℕ). IsField t n) (sym (decimal-two n (omega arith) h)) (two-is n h)
-      | inr (inr large) ↦ subst (λ (t : List ℕ). IsField t n) (sym (decimal-two n (omega arith) h)) (two-is n h)
-    ]
+bare-is n h = grind (arith, cases_order, decimal_digit, is-digit, decimal-two, two-is)
 
 pub year-is-four : (n : ℕ) → n ≤ 9999 → IsYear (four_digits n) n
-year-is-four n h = (is-digit (n / 100 / 10) (omega arith), is-digit (n / 100 % 10) (omega arith), is-digit (n % 100 / 10) (omega arith), is-digit (n % 100 % 10) (omega arith), omega arith)
+year-is-four n h = grind (arith, is-digit)
 
 pub date-is : (d : DateFields) → d.year ≤ 9999 → d.month < 100 → d.day < 100 → IsPlainDate (date_text d) d
 date-is d y m e = record { year = four_digits d.year; month = two_digits d.month; day = two_digits d.day; whole = refl; is_year = year-is-four d.year y; is_month = two-is d.month m; is_day = two-is d.day e }
@@ -114,16 +96,7 @@ clock-is c h m s = record { hour = two_digits c.hour; minute = two_digits c.minu
 
 -- an offset as it is printed
 zone-tests : (o : ℤ) → unsigned_abs o ≤ 86340 → is_jiff_offset (written_fields o) ≡ true
-zone-tests o h =
-    let hours : nat_le (unsigned_abs o / 3600) 25 ≡ true = grind (arith, nat_tests, few (unsigned_abs o) h) in
-    let minutes : nat_le (unsigned_abs o % 3600 / 60) 59 ≡ true = grind (arith, nat_tests, fewer (unsigned_abs o)) in
-    rw (hours, minutes) refl
-  where
-    few : (n : ℕ) → n ≤ 86340 → n / 3600 ≤ 25
-    few n h = omega arith
-
-    fewer : (n : ℕ) → n % 3600 / 60 ≤ 59
-    fewer n = omega arith
+zone-tests o h = grind (arith, nat_tests)
 
 zone-is-offset : (o : ℤ) → unsigned_abs o ≤ 86340 → unsigned_abs o % 60 ≡ 0 → jiff_offset (written_fields o) ≡ Some o
 zone-is-offset o h m = rw (zone-tests o h) (ap (λ (z : ℤ). Some z) (back-to o m))
@@ -137,13 +110,11 @@ unfolding rfc2822_zone rfc2822_offset
 rfc2822-zone-is o h m = rw (zone-read o (omega arith), zone-is-offset o h m) refl
 
 -- the answer
-pub answer-is : (t : Time) (date : DateFields) (clock : ClockFields)
+pub answer_is : (t : Time) (date : DateFields) (clock : ClockFields)
     → civil_instant date clock t.offset ≡ Some t.seconds → unsigned_abs t.offset ≤ 86340
     → date_answer date clock t.offset ≡ Some (Absolute t)
 unfolding date_answer
-answer-is t date clock e h =
-    let within : nat_lt 86340 (unsigned_abs t.offset) ≡ false = grind (arith, nat_tests, h) in
-    rw (e, within) refl
+answer_is t date clock e h = grind (arith, nat_tests)
 
 -- Of families that are apart, one that answers is the first.
 pub some-counts : (i : ℕ) (answers : List (Option FamilyAnswer)) (x : FamilyAnswer) → get_or answers i None ≡ Some x
@@ -172,20 +143,17 @@ one-space = (refl, refl)
 -- an offset with a colon
 pub strict-is : (o : ℤ) → unsigned_abs o ≤ 86340 → unsigned_abs o % 60 ≡ 0 → strict_offset (strict_offset_text o) ≡ Some o
 unfolding strict_offset last_colon_pair skip_char
-strict-is o h m =
-    let hours = unsigned_abs o / 3600 in
-    let minutes = unsigned_abs o % 3600 / 60 in
-    rw (sign-read (int_lt o (pos 0)) (two_digits hours ++ (colon ∷ two_digits minutes)), two-read hours (colon ∷ two_digits minutes) (omega arith), two-read minutes [] (omega arith)) (zone-is-offset o h m)
+strict-is o h m = grind (arith, sign-read, two-read, zone-is-offset)
 
 -- names of days and months
 pub weekday-small : (d : Date) → weekday_of d < 7
 unfolding weekday_number
 weekday-small d = omega (arith, signed_arith, one_part (int_rem_euclid (epoch_day d +ℤ pos 3) (pos 7)))
 
-pub day-is : (n : ℕ) → n < 7 → IsDayName (day_name n)
+pub day_is_named : (n : ℕ) → n < 7 → IsDayName (day_name n)
 unfolding is_weekday
-day-is (suc (suc (suc (suc (suc (suc (suc n))))))) h = absurd (omega arith)
-day-is n h = (refl, refl)
+day_is_named (suc (suc (suc (suc (suc (suc (suc n))))))) h = absurd (omega arith)
+day_is_named n h = (refl, refl)
 
 pub month-is : (n : ℕ) → 1 ≤ n → n ≤ 12 → IsMonthName (month_name n) n
 unfolding month_named
@@ -205,9 +173,9 @@ pub record IsPrintable (t : LocalTime) : Type 0 where
 -- what is printed for a piece is such a piece, and so for any layout
 piece-is : (day : ℕ → List ℕ) → ((n : ℕ) → n < 100 → IsField (day n) n) → (p : Piece) (t : LocalTime) → IsPrintable t
     → IsPiece p t (print_piece day p t)
-piece-is day field DayName t h = day-is t.weekday h.weekday
+piece-is day field DayName t h = day_is_named t.weekday h.weekday
 piece-is day field Rfc2822DayName t h =
-    inr (record { name = day_name t.weekday; gap = space ∷ []; whole = refl; is_name = day-is t.weekday h.weekday; are_spaces = one-space })
+    inr (record { name = day_name t.weekday; gap = space ∷ []; whole = refl; is_name = day_is_named t.weekday h.weekday; are_spaces = one-space })
 piece-is day field MonthName t h = month-is t.date.month h.first_month h.last_month
 piece-is day field Day t h = field t.date.day h.range.day
 piece-is day field Year t h = year-is-four t.date.year h.range.high
@@ -233,15 +201,7 @@ pub record IsShownPlain (z : PlainZoned) (t : Time) : Type 0 where
   pub within : unsigned_abs t.offset ≤ 86340
 
 printable : (z : PlainZoned) (t : Time) → IsShownPlain z t → IsPrintable (local_time z)
-printable z t h =
-    record {
-      range = in-range z h.four_digits;
-      weekday = weekday-small z.datetime.date;
-      first_month = z.datetime.date.month_in.0;
-      last_month = z.datetime.date.month_in.1;
-      second = z.datetime.time.second_in;
-      within = subst (λ (o : ℤ). unsigned_abs o ≤ 86340) (sym h.offset_is) h.within;
-    }
+printable z t h = grind (arith, in-range, weekday-small)
 
 -- a layout that is read where a text is its pieces reads what is printed by it
 pub back : (family : List ℕ → Option FamilyAnswer) (layout : List Piece) (day : ℕ → List ℕ)
@@ -251,7 +211,7 @@ pub back : (family : List ℕ → Option FamilyAnswer) (layout : List Piece) (da
 back family layout day spells field z t h =
     let l = local_time z in
     let civil : civil_instant l.date l.clock t.offset ≡ Some t.seconds = subst (λ (o : ℤ). civil_instant l.date l.clock o ≡ Some t.seconds) h.offset_is (local-instant z t.seconds h.four_digits h.instant) in
-    let comes = subst (λ (o : ℤ). date_answer l.date l.clock o ≡ Some (Absolute t)) (sym h.offset_is) (answer-is t l.date l.clock civil h.within) in
+    let comes = subst (λ (o : ℤ). date_answer l.date l.clock o ≡ Some (Absolute t)) (sym h.offset_is) (answer_is t l.date l.clock civil h.within) in
     (spells (print_pieces day layout l) (Absolute t)).1 (record {
       time =
           l;

@@ -1,10 +1,10 @@
 -- The pieces of a printed text.
-use Rattle.std.proofs.Common.{◌≡◌, ◌∙◌, ℕ, ℤ, pos, ◌+◌, ◌-◌, ◌/◌, ◌%◌, ◌<◌, ◌≤◌, ◌^◌, Bool, true, false, List, [], ◌∷◌, ◌++◌, Option, Ok, Err, Result, refl, sym, ap, arith, append_assoc, decimal, length, get_or, replicate, min, int_le, inl, inr, zero, suc, unsigned_abs, lit<, if◌then◌else◌, int_lt, map}
+use Rattle.std.proofs.Common.{◌≡◌, ◌∙◌, ℕ, ℤ, pos, ◌+◌, ◌-◌, ◌/◌, ◌%◌, ◌<◌, ◌≤◌, Bool, true, false, List, [], ◌∷◌, ◌++◌, Option, Ok, Err, Result, refl, sym, ap, arith, append_assoc, decimal, length, get_or, replicate, min, inl, inr, zero, suc, unsigned_abs, lit<, if◌then◌else◌, map}
 use Rattle.std.specs.Prelude.{nat_lt}
 use Rattle.std.specs.List.{concat, list_all}
 use Rattle.std.proofs.lemmas.Bool.Decides.{nat_tests}
 use Rattle.std.proofs.lemmas.List.{append-nil}
-use Rattle.std.proofs.lemmas.Str.{IsAscii-append, IsUtf8-from_ascii}
+use Rattle.std.proofs.lemmas.Str.{IsUtf8-from_ascii}
 use Rattle.std.proofs.lemmas.Str.Ascii.{IsAscii-nil, IsAscii-cons}
 use Rattle.std.specs.Str.{IsUtf8, IsAscii}
 use Rattle.std.proofs.lemmas.Bool.{cases_order, and_parts as both}
@@ -23,7 +23,7 @@ use Rattle.jiff_strtime.specs.declared.directive.Config.{Config}
 use Rattle.jiff_strtime.specs.declared.directive.Locale.TheVariants.{Default}
 use Rattle.jiff_tz.specs.Abbreviation.{abbreviation_text}
 use Rattle.jiff_tz.specs.Zone.{zone_name}
-use Rattle.gix_date.specs.Fields.Offsets.{hours_and_minutes, compact_offset_text}
+use Rattle.gix_date.specs.Fields.Offsets.{compact_offset_text}
 use Rattle.gix_date.specs.Fields.Layout.{LocalTime}
 use Rattle.gix_date.specs.Fields.FieldTexts.{four_digits}
 use Rattle.gix_date.specs.Fields.DateOffsets.{strict_offset_text}
@@ -102,44 +102,22 @@ abbrev pub bare : ℤ → List ℕ
 bare n = int_text no_pad 48 2 n
 
 number-padded : (width n : ℕ) → number width (pos n) ≡ padded n 48 width
-number-padded width n =
-    let e : int_le (pos 0) (pos n) ≡ true = grind (arith, ints) in
-    rw e refl
+number-padded width n = grind (arith, ints)
 
 pub decimal-two : (n : ℕ) → 10 ≤ n → n < 100 → decimal n ≡ (48 + n / 10) ∷ (48 + n % 10) ∷ []
-decimal-two n low high =
-    let big : n < 2 ^ 64 = omega arith in
-    let ten : n / 10 < 10 = omega arith in
-    decimal_step n low big ∙ ap (λ (t : List ℕ). t ++ ((48 + n % 10) ∷ [])) (decimal_digit (n / 10) ten)
+decimal-two n low high = grind (arith, decimal_step, decimal_digit)
 
 padded-by : (n : ℕ) (ds : List ℕ) → decimal n ≡ ds → (width : ℕ) → padded n 48 width ≡ replicate (min width 20 - length ds) 48 ++ ds
 padded-by n ds e width = ap (λ (t : List ℕ). replicate (min width 20 - length t) 48 ++ t) e
 
 padded-small : (n : ℕ) → n < 10 → padded n 48 2 ≡ two_digits n
-padded-small n small =
-    let q : n / 10 ≡ 0 = omega arith in
-    let r : n % 10 ≡ n = omega arith in
-    padded-by n _ (decimal_digit n small) 2 ∙ rw (q, r) refl
+padded-small n small = grind (arith, padded-by, decimal_digit)
 
 padded-two : (n : ℕ) → n < 100 → padded n 48 2 ≡ two_digits n
-padded-two n h =
-    elim (cases_order n 10) [
-      | inr (inl small) ↦ padded-small n small
-      | inl ten ↦ padded-by n _ (decimal-two n (omega arith) h) 2
-      | inr (inr large) ↦ padded-by n _ (decimal-two n (omega arith) h) 2
-    ]
+padded-two n h = grind (arith, cases_order, padded-small, padded-by, decimal-two)
 
 decimal-four : (n : ℕ) → 1000 ≤ n → n ≤ 9999 → decimal n ≡ four_digits n
-decimal-four n low high =
-    let thousands : n / 10 / 10 / 10 ≡ n / 100 / 10 = omega arith in
-    let hundreds : n / 10 / 10 % 10 ≡ n / 100 % 10 = omega arith in
-    let tens : n / 10 % 10 ≡ n % 100 / 10 = omega arith in
-    let ones : n % 10 ≡ n % 100 % 10 = omega arith in
-    decimal_step n (omega arith) (omega arith)
-    ∙ ap (λ (t : List ℕ). t ++ ((48 + n % 10) ∷ [])) (decimal_step (n / 10) (omega arith) (omega arith)
-    ∙ ap (λ (t : List ℕ). t ++ ((48 + n / 10 % 10) ∷ [])) (decimal_step (n / 10 / 10) (omega arith) (omega arith)
-    ∙ ap (λ (t : List ℕ). t ++ ((48 + n / 10 / 10 % 10) ∷ [])) (decimal_digit (n / 10 / 10 / 10) (omega arith))))
-    ∙ rw (thousands, hundreds, tens, ones) refl
+decimal-four n low high = grind (arith, decimal_step, decimal_digit)
 
 pub number-two : (n : ℕ) → n < 100 → number 2 (pos n) ≡ two_digits n
 number-two n h = number-padded 2 n ∙ padded-two n h
@@ -148,14 +126,10 @@ pub number-four : (n : ℕ) → 1000 ≤ n → n ≤ 9999 → number 4 (pos n) �
 number-four n low high = number-padded 4 n ∙ padded-by n _ (decimal-four n low high) 4
 
 bare-padded : (n : ℕ) → padded n 48 0 ≡ decimal n
-bare-padded n =
-    let none : 0 - length (decimal n) ≡ 0 = omega arith in
-    ap (λ (k : ℕ). replicate k 48 ++ decimal n) none
+bare-padded n = grind (arith)
 
 pub number-bare : (n : ℕ) → bare (pos n) ≡ decimal n
-number-bare n =
-    let e : int_le (pos 0) (pos n) ≡ true = grind (arith, ints) in
-    rw e (bare-padded n)
+number-bare n = grind (arith, ints, bare-padded)
 
 -- a name in a table of names that are cut to three letters
 pub short_of : (names : List (List ℕ)) (n : ℕ) → short (get_or names n []) ≡ get_or (map short names) n []
@@ -170,14 +144,10 @@ minutes-are : (n : ℕ) → n / 60 % 60 ≡ n % 3600 / 60
 minutes-are n = omega arith
 
 pub zone-is : (o : ℤ) → unsigned_abs o % 60 ≡ 0 → unsigned_abs o / 3600 < 100 → offset_text o false true false ≡ compact_offset_text o
-zone-is o whole few_hours =
-    let few : unsigned_abs o % 3600 / 60 < 100 = omega arith in
-    rw (whole, minutes-are (unsigned_abs o), padded-two (unsigned_abs o / 3600) few_hours, padded-two (unsigned_abs o % 3600 / 60) few) (simp append-nil refl)
+zone-is o whole few_hours = grind (arith, minutes-are, padded-two, append-nil)
 
 pub strict-zone-is : (o : ℤ) → unsigned_abs o % 60 ≡ 0 → unsigned_abs o / 3600 < 100 → offset_text o true true false ≡ strict_offset_text o
-strict-zone-is o whole few_hours =
-    let few : unsigned_abs o % 3600 / 60 < 100 = omega arith in
-    rw (whole, minutes-are (unsigned_abs o), padded-two (unsigned_abs o / 3600) few_hours, padded-two (unsigned_abs o % 3600 / 60) few) refl
+strict-zone-is o whole few_hours = grind (arith, minutes-are, padded-two)
 
 -- what a zoned value with four-digit fields shows
 pub record InRange (t : LocalTime) : Type 0 where
@@ -192,28 +162,13 @@ pub record InRange (t : LocalTime) : Type 0 where
   pub whole : unsigned_abs t.offset % 60 ≡ 0
 
 pub in-range : (z : PlainZoned) → ShowsFourDigitFields z → InRange (local_time z)
-in-range z o =
-    let day = z.datetime.date in
-    let time = z.datetime.time in
-    let long = days_in_month_bounds day.year day.month in
-    let year_abs : unsigned_abs day.year ≡ o.year = ap (λ (v : ℤ). unsigned_abs v) o.year_is in
-    record {
-      low = rw year_abs o.low;
-      high = rw year_abs o.high;
-      day = omega (arith, day.day_in, long);
-      month = omega (arith, day.month_in);
-      hour = omega (arith, time.hour_in);
-      minute = omega (arith, time.minute_in);
-      second = omega (arith, time.second_in);
-      hours = omega (arith, signed_arith, one_part z.offset.seconds, z.offset.in_range);
-      whole = o.minutes;
-    }
+in-range z o = grind (arith, days_in_month_bounds, signed_arith, one_part)
 
 pub ascii-two : (n : ℕ) → n < 100 → IsAscii (two_digits n)
 ascii-two n h = IsAscii-cons _ (_ ∷ []) (omega arith) (IsAscii-cons _ [] (omega arith) IsAscii-nil)
 
 pub ascii-four : (n : ℕ) → n ≤ 9999 → IsAscii (four_digits n)
-ascii-four n h = IsAscii-append (two_digits (n / 100)) (two_digits (n % 100)) (ascii-two (n / 100) (omega arith)) (ascii-two (n % 100) (omega arith))
+ascii-four n h = grind (arith, ascii-two)
 
 pub ascii-bare : (n : ℕ) → n < 100 → IsAscii (decimal n)
 ascii-bare n h = IsAscii-decimal n (omega arith)
@@ -241,12 +196,7 @@ sign_of true = lit< tt
 sign_of false = lit< tt
 
 pub ascii-zone : (o : ℤ) → unsigned_abs o / 3600 < 100 → IsAscii (compact_offset_text o)
-ascii-zone o hours =
-    IsAscii-cons _ (hours_and_minutes (unsigned_abs o)) (sign_of (int_lt o (pos 0)))
-    (IsAscii-append (two_digits (unsigned_abs o / 3600)) (two_digits (unsigned_abs o % 3600 / 60)) (ascii-two _ hours) (ascii-two (unsigned_abs o % 3600 / 60) (omega arith)))
+ascii-zone o hours = grind (arith, sign_of, ascii-two)
 
 pub ascii-strict-zone : (o : ℤ) → unsigned_abs o / 3600 < 100 → IsAscii (strict_offset_text o)
-ascii-strict-zone o hours =
-    IsAscii-cons _ (two_digits (unsigned_abs o / 3600) ++ (58 ∷ two_digits (unsigned_abs o % 3600 / 60))) (sign_of (int_lt o (pos 0)))
-    (IsAscii-append (two_digits (unsigned_abs o / 3600)) (58 ∷ two_digits (unsigned_abs o % 3600 / 60)) (ascii-two _ hours)
-    (IsAscii-cons 58 (two_digits (unsigned_abs o % 3600 / 60)) (lit< tt) (ascii-two (unsigned_abs o % 3600 / 60) (omega arith))))
+ascii-strict-zone o hours = grind (arith, sign_of, ascii-two)

@@ -1,11 +1,11 @@
 -- What the strict printer shows by a named pattern is its text: not only nothing else, but that.
-use Rattle.std.proofs.Common.{◌≡◌, ◌∙◌, ◌+◌, ◌/◌, ◌%◌, ◌++◌, ℤ, pos, int_lt, unsigned_abs, Bool, true, length, Bor, option_map, arith, get_or, lit<, if◌then◌else◌, ◌<◌, ◌≤◌, ℕ, List, [], ◌∷◌, decimal, Option, Some, None, Result, Ok, Err, IfOk, IfErr, String, Global, refl, sym, ap, subst, inl, inr, false, string_bytes, suc}
+use Rattle.std.proofs.Common.{◌≡◌, ◌∙◌, ◌+◌, ◌/◌, ◌++◌, ℤ, unsigned_abs, Bool, true, length, Bor, option_map, arith, get_or, lit<, if◌then◌else◌, ◌<◌, ◌≤◌, ℕ, List, [], ◌∷◌, decimal, Option, Some, None, Result, Ok, Err, IfOk, IfErr, String, Global, refl, sym, ap, subst, inl, inr, false, string_bytes, suc}
 use Rattle.std.proofs.lemmas.Fmt.{decimal_digit}
 use Rattle.jiff.specs.Types.{PlainZoned}
 use Rattle.jiff_core.specs.declared.error.Error.TheVariants.{Missing}
 use Rattle.jiff_core.specs.declared.error.Part.TheVariants.{Date as NoDate, Year}
 use Rattle.jiff_strtime.specs.Text.{Parts, from_hour, parts_of}
-use Rattle.jiff_tz.specs.Abbreviation.{abbreviation_text, colon_digits, not_zero, offset_text}
+use Rattle.jiff_tz.specs.Abbreviation.{abbreviation_text, colon_digits, offset_text}
 use Rattle.jiff_tz.specs.Zone.{zone_name, utc_offset, IsInfoAt}
 use Rattle.jiff_tz.specs.PosixRule as PosixRule
 use Rattle.jiff_tz.specs.Tzif as Table
@@ -27,7 +27,7 @@ use Rattle.jiff_core.specs.declared.civil.weekday.Weekday.TheVariants.{Monday, T
 use Rattle.jiff_strtime.specs.declared.tm.BrokenDownTime.{BrokenDownTime}
 use Rattle.jiff.specs.Words.{plain_zoned}
 use Rattle.gix_date.specs.Fields.Layout.{LocalTime}
-use Rattle.gix_date.specs.Printing.NamedTexts.{local_time, IsShownByAll}
+use Rattle.gix_date.specs.Printing.NamedTexts.{IsShownByAll}
 use Rattle.gix_date.specs.Printing.LocalClocks.{clock_of, HasFourDigitFields}
 use Rattle.gix_date.specs.Printing.Formats.{IsShown, IsPatternText, PrintsPattern, HasParts}
 use Rattle.gix_date.specs.Fields.Zoned.{IsConvertible}
@@ -35,7 +35,7 @@ use Rattle.gix_date.specs.Text.Numbers.{two_digits}
 use Rattle.gix_date.specs.declared.error.Error.{Error}
 use Rattle.gix_date.specs.declared.error.Error.TheVariants as errors
 use Rattle.gix_date.specs.declared.time.Time.{Time}
-use Rattle.gix_date.proofs.Printing.LocalClocks.{moment-of, moment-shows, clock-shown, four-digits-from}
+use Rattle.gix_date.proofs.Printing.LocalClocks.{moment-of, moment-shows, clock_is_shown, four-digits-from}
 use Rattle.gix_date.proofs.Printing.Printing.{are-printed, filled_parts}
 use Rattle.gix_date.proofs.Printing.ShownPieces.{AlwaysShows, AlwaysShowsText, ascii-two, sign_of, context, decimal-two, strict_config}
 
@@ -64,12 +64,10 @@ behind-short false true m s = omega arith
 behind-short x b m s = omega arith
 
 offset-ascii : (o : ℤ) → unsigned_abs o / 3600 < 100 → IsAscii (offset_text o)
-offset-ascii o hours =
-    IsAscii-append (_ ∷ two_digits (unsigned_abs o / 3600)) (behind_hours _ _ (unsigned_abs o / 60 % 60) (unsigned_abs o % 60)) (IsAscii-cons _ (two_digits (unsigned_abs o / 3600)) (sign_of (int_lt o (pos 0))) (ascii-two (unsigned_abs o / 3600) hours))
-    (behind-ascii (not_zero (unsigned_abs o % 60)) (not_zero (unsigned_abs o / 60 % 60)) (unsigned_abs o / 60 % 60) (unsigned_abs o % 60) (omega arith) (omega arith))
+offset-ascii o hours = grind (arith, sign_of, ascii-two, behind-ascii)
 
 offset-short : (o : ℤ) → length (offset_text o) ≤ 15
-offset-short o = omega (arith, behind-short (not_zero (unsigned_abs o % 60)) (not_zero (unsigned_abs o / 60 % 60)) (unsigned_abs o / 60 % 60) (unsigned_abs o % 60))
+offset-short o = grind (arith, behind-short)
 
 utc-ascii : IsAscii (85 ∷ 84 ∷ 67 ∷ [])
 utc-ascii = IsAscii-cons 85 (84 ∷ 67 ∷ []) (lit< tt) (IsAscii-cons 84 (67 ∷ []) (lit< tt) (IsAscii-cons 67 [] (lit< tt) IsAscii-nil))
@@ -162,10 +160,7 @@ shows-always pattern z text always =
 -- so it shows its text of each zoned value with four-digit fields with that clock
 pub named-shown : (pattern named : List ℕ) (text : LocalTime → List ℕ) (local : LocalTime) (bytes : List ℕ)
     → AlwaysShowsText named text → pattern ≡ named → bytes ≡ text local → IsShownByAll pattern local bytes
-named-shown pattern named text local bytes always p b z four_digits shows =
-    let shown = shows-always named z (text (local_time z)) (always z four_digits) in
-    let whole : text (local_time z) ≡ bytes = ap text shows ∙ sym b in
-    subst (λ (q : List ℕ). IsShown q z (Ok bytes)) (sym p) (subst (λ (s : List ℕ). IsShown named z (Ok s)) whole shown)
+named-shown pattern named text local bytes always p b z four_digits shows = grind (arith, shows-always)
 
 -- what a copy of this text comes to is what the pattern prints
 pub copy-prints : (pattern : List ℕ) (t : Time) (text : List ℕ) (r : Result (String Global) Error) → IsConvertible t
@@ -181,11 +176,11 @@ named-text pattern t local bytes shown clock converts four_digits =
     let m = moment-of t converts in
     let shows = moment-shows t m.0 m.1 in
     let z = plain_zoned m.0 in
-    (m.0, m.1, shown z (four-digits-from z t shows four_digits) (clock-shown z t shows ∙ sym clock))
+    (m.0, m.1, shown z (four-digits-from z t shows four_digits) (clock_is_shown z t shows ∙ sym clock))
 
 -- the day of the month, in one digit or two
-pub day-of-one : (day : ℕ) → day < 10 → (48 + day) ∷ [] ≡ decimal day
-day-of-one day h = sym (decimal_digit day h)
+pub day_of_one : (day : ℕ) → day < 10 → (48 + day) ∷ [] ≡ decimal day
+day_of_one day h = sym (decimal_digit day h)
 
-pub day-of-two : (day : ℕ) → 10 ≤ day → day < 100 → two_digits day ≡ decimal day
-day-of-two day low high = sym (decimal-two day low high)
+pub day_of_two : (day : ℕ) → 10 ≤ day → day < 100 → two_digits day ≡ decimal day
+day_of_two day low high = sym (decimal-two day low high)

@@ -1,4 +1,5 @@
 -- One pair after the other off an instant.
+use Rattle.std.proofs.Common.{arith}
 use Rattle.std.proofs.Common.{◌≡◌, ◌∙◌, ℕ, ℤ, pos, List, [], ◌∷◌, sym, ap, subst, Option, Some, None, Result, Ok, Err}
 use Rattle.std.specs.Prelude.{int_div}
 use Rattle.jiff.specs.Types.{TimeZone}
@@ -30,12 +31,7 @@ abbrev pub Left : TimeZone → List (ℤ × TimeUnit) → ℤ → List (ℤ × T
 Left tz left here all start = (j : ℤ) → (Chain tz left here j → Chain tz all start j) × (Chain tz all start j → Chain tz left here j)
 
 pub left-next : (tz : TimeZone) (pair : ℤ × TimeUnit) (left more all : List (ℤ × TimeUnit)) (here next start : ℤ) → left ≡ pair ∷ more → PairStep tz pair here next → Left tz left here all start → Left tz more next all start
-left-next tz pair left more all here next start e step h =
-    let from : Left tz (pair ∷ more) here all start = subst (λ ps. Left tz ps here all start) e h in
-    λ j. (
-      λ g. (from j).0 (next, step, g),
-      λ g. let r = (from j).1 g in subst (λ (k : ℤ). Chain tz more k j) (pair-once tz pair here r.0 next r.1 step) r.2,
-    )
+left-next tz pair left more all here next start e step h = grind (arith, pair-once)
 
 -- what is read leads to what is asked for
 pub reaches-is : (tz : TimeZone) (words : List (List ℕ)) (i start j : ℤ) → Resolves tz i start → Chain tz (pairs_read words) start j → Reaches (MinusPairs (pairs words)) tz i j

@@ -1,5 +1,6 @@
 -- Whether the word after some words is free, as one more word is read.
-use Rattle.std.proofs.Common.{◌≡◌, ℕ, Bool, true, false, cond, List, [], ◌∷◌, ◌++◌, refl, ◌∙◌}
+use Rattle.std.proofs.Common.{arith}
+use Rattle.std.proofs.Common.{◌≡◌, ℕ, Bool, true, false, cond, List, [], ◌∷◌, ◌++◌, refl}
 use Rattle.std.proofs.lemmas.List.Sums.{fold-append}
 use Rattle.std.specs.Prelude.{not, ◌&&◌}
 use Rattle.gix_date.specs.Relative.Roles.{is_count_word, next_is_free}
@@ -13,4 +14,4 @@ turns false false = refl
 -- after a count word what was free is no longer so, and the other way round; after another word the next is free
 pub free_after : (front : List (List ℕ)) (w : List ℕ) → next_is_free (front ++ w ∷ []) ≡ cond (is_count_word w) (not (next_is_free front)) true
 unfolding next_is_free
-free_after front w = fold-append (λ free word. not (free && is_count_word word)) true front (w ∷ []) ∙ turns (next_is_free front) (is_count_word w)
+free_after front w = grind (arith, fold-append, turns)

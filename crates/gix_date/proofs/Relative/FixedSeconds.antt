@@ -1,4 +1,5 @@
 -- In a zone of one offset pairs of seconds subtract exactly.
+use Rattle.std.proofs.Common.{rules}
 use Rattle.std.proofs.Common.{◌≡◌, ◌∙◌, ◌↔◌, ℤ, pos, ◌-ℤ◌, List, [], ◌∷◌, sym, subst, arith}
 use Rattle.std.specs.List.{All}
 use Rattle.std.proofs.lemmas.List.Elements.{All-nil, All-head, All-tail, All-cons}
@@ -17,9 +18,7 @@ use Rattle.gix_date.proofs.Relative.Steps.{resolves-once}
 -- a step of seconds is a plain difference
 fixed-step : (tz : TimeZone) → IsFixed tz → (n i j : ℤ) → SecondsStep tz n i j
     → (j ≡ i -ℤ nanos_of_seconds n) × IsTimestampNanos j
-fixed-step tz f n i j h =
-    let next = i -ℤ nanos_of_seconds n in
-    (resolves-once tz next j next h.resolves (fixed-keeps tz f next h.in_range), h.resolves.picked.in_range)
+fixed-step tz f n i j h = search (rules, resolves-once, fixed-keeps)
 
 same-less-none : (i : ℤ) → i ≡ (i -ℤ nanos_of_seconds (pos 0))
 same-less-none i = omega (arith, signed_arith)

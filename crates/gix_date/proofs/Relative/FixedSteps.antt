@@ -1,11 +1,13 @@
 -- Steps at one offset, and in a zone that has no other.
-use Rattle.std.proofs.Common.{◌≡◌, ◌∙◌, ◌↔◌, ◌≤◌, Bool, true, false, cond, int_eq, ℤ, pos, ◌+ℤ◌, ◌-ℤ◌, refl, sym, ap, List, [], ◌∷◌, FitsSigned, w64}
+use Rattle.std.proofs.Common.{arith}
+use Rattle.std.proofs.Common.{rules}
+use Rattle.std.proofs.Common.{◌≡◌, ◌∙◌, ◌↔◌, ◌≤◌, ℤ, pos, ◌+ℤ◌, ◌-ℤ◌, refl, sym, ap, List, [], ◌∷◌, FitsSigned, w64}
 use Rattle.std.specs.List.{All}
 use Rattle.jiff.proofs.ZoneFacts.{offset_at-fixed_zone, picked_instant-fixed_zone}
 use Rattle.jiff.specs.Types.{TimeZone, DateTime, Offset}
 use Rattle.jiff.specs.Words.{fixed_zone, offset_at, picked_instant, civil_nanos, nanos_of_seconds, IsTimestampNanos}
 use Rattle.jiff_tz.specs.Zone.{IsFixed, utc_offset, ambiguous_at}
-use Rattle.jiff_tz.specs.declared.timezone.TimeZone.TheVariants.{UTC, Fixed, Posix, Tzif}
+use Rattle.jiff_tz.specs.declared.timezone.TimeZone.TheVariants.{Fixed, Posix, Tzif}
 use Rattle.gix_date.specs.Relative.Dates.{RelativeDate, MinusSeconds, MinusPairs, Reaches}
 use Rattle.gix_date.specs.Relative.FixedZones.{total, less_months}
 use Rattle.gix_date.specs.Relative.Steps.{IsLocal, IsPicked, Resolves, PairStep, Chain, ChooseAlike}
@@ -22,10 +24,7 @@ picks tz o f h dt = ap (λ (s : ℤ). civil_nanos dt -ℤ nanos_of_seconds s) (s
 
 -- a zone of a kind that has one offset is like the one that is made of it
 pub one-offset : (tz : TimeZone) (o : Offset) → IsFixed tz → ((n : ℤ) → o.seconds ≡ offset_at tz n) → ChooseAlike tz (fixed_zone o)
-one-offset tz o f h = record {
-  offset = λ n. sym (h n) ∙ sym (offset_at-fixed_zone o n);
-  picks = λ dt. picks tz o f h dt ∙ sym (picked_instant-fixed_zone o dt);
-}
+one-offset tz o f h = grind (arith, offset_at-fixed_zone, picks, picked_instant-fixed_zone)
 
 pub turned : (a b : TimeZone) → ChooseAlike a b → ChooseAlike b a
 turned a b h = record { offset = λ n. sym (h.offset n); picks = λ dt. sym (h.picks dt) }
@@ -45,16 +44,7 @@ resolves-alike a b h i j s = record {
 
 step-alike : (a b : TimeZone) → ChooseAlike a b → (pair : ℤ × TimeUnit) (i j : ℤ) → PairStep a pair i j → PairStep b pair i j
 step-alike a b h (n, Seconds size) i j (fits, s) = (fits, record { in_range = s.in_range; resolves = resolves-alike a b h _ j s.resolves })
-step-alike a b h (n, Months size) i j (fits, s) = (
-  fits,
-  record {
-    local = s.local;
-    local_is = local-alike a b h i s.local s.local_is;
-    fits = s.fits;
-    year_in = s.year_in;
-    picked = picked-alike a b h _ j s.picked;
-  },
-)
+step-alike a b h (n, Months size) i j (fits, s) = search (rules, local-alike, picked-alike)
 
 chain-alike : (a b : TimeZone) → ChooseAlike a b → (list : List (ℤ × TimeUnit)) (i j : ℤ) → Chain a list i j → Chain b list i j
 chain-alike a b h [] i j c = c
@@ -74,11 +64,7 @@ fixed-offset tz f = (utc_offset, λ n. refl)
 
 -- a zone that is made of an offset is one
 pub fixed-zone : (o : Offset) → IsFixed (fixed_zone o)
-fixed-zone o = by (int_eq o.seconds (pos 0))
-  where
-    by : (b : Bool) → IsFixed (cond b UTC (Fixed o))
-    by true = tt
-    by false = tt
+fixed-zone o = grind (arith)
 
 pub months-in : (tz : TimeZone) → IsFixed tz → (i : ℤ) (dt : DateTime) (pairs : List (ℤ × ℤ)) → IsLocal tz i dt → dt.date.day ≤ 28 → IsTimestampNanos i
     → All IsLoss pairs → FitsSigned w64 (total pairs) → (j : ℤ) → Reaches (less_months pairs) tz i j ↔ Reaches (less_months ((total pairs, pos 1) ∷ [])) tz i j

@@ -1,4 +1,5 @@
 -- What a date of seconds names from a time: its seconds less so many, at its offset.
+use Rattle.std.proofs.Common.{rules}
 use Rattle.std.proofs.Common.{◌≡◌, ◌∙◌, ◌↔◌, ℤ, pos, ◌-ℤ◌, ◌*ℤ◌, List, true, refl, sym, ap, subst, arith}
 use Rattle.std.specs.List.{All}
 use Rattle.jiff.proofs.ZoneFacts.{offset_at-fixed_zone}
@@ -10,7 +11,7 @@ use Rattle.jiff_tz.specs.Zone.{IsFixed}
 use Rattle.gix_date.specs.Relative.FixedZones.{total, less_seconds, earlier, NamesEarlier, NamesBefore}
 use Rattle.gix_date.specs.Relative.Dates.{RelativeDate, Reaches, IsNamed}
 use Rattle.gix_date.specs.Relative.Steps.{zone_of}
-use Rattle.gix_date.specs.Fields.Zoned.{IsMoment, is_instant, time_in, whole_seconds as seconds_of}
+use Rattle.gix_date.specs.Fields.Zoned.{IsMoment, is_instant, time_in}
 use Rattle.gix_date.specs.declared.time.Time.{Time}
 use Rattle.gix_date.proofs.Relative.Chains.{same-time}
 use Rattle.gix_date.proofs.Relative.FixedSteps.{fixed-zone}
@@ -55,25 +56,11 @@ names-earlier date t n law z m r =
 
 pub seconds-earlier : (t : Time) (pairs : List (ℤ × ℤ)) → All IsLoss pairs
     → NamesEarlier (less_seconds pairs) t (total pairs)
-seconds-earlier t pairs loss =
-    names-earlier (less_seconds pairs) t (total pairs) (λ z m. seconds-law z pairs (moment-fixed t z m) loss)
+seconds-earlier t pairs loss = search (rules, names-earlier, seconds-law, moment-fixed)
 
 -- The same from each moment, by the instant that is reached.
 abbrev NamesOnly : RelativeDate → Zoned → ℤ → Type 0
 NamesOnly date z due = (t : Time) → IsNamed date z t ↔ ((t ≡ time_in (zone_of z) due) × IsTimestampNanos due)
 
 pub names-before : (date : RelativeDate) (z : Zoned) (due : ℤ) → ((j : ℤ) → Reaches date (zone_of z) (zoned_nanos z) j ↔ ((j ≡ due) × IsTimestampNanos j)) → NamesOnly date z due
-names-before date z due law t = (
-  λ h.
-      let at = (law h.instant).0 h.reaches in
-      (same-time t (time_in (zone_of z) due) (h.seconds_is ∙ ap (λ (i : ℤ). seconds_of i) at.0) (h.offset_is ∙ ap (λ (i : ℤ). offset_at (zone_of z) i) at.0), subst IsTimestampNanos at.0 at.1),
-  λ h. record {
-    instant = due;
-    reaches = (law due).1 (refl, h.1);
-    seconds_is = ap (λ (q : Time). q.seconds) h.0;
-    offset_is = ap (λ (q : Time). q.offset) h.0;
-  },
-)
-
-pub seconds-before : (z : Zoned) → IsFixed (zone_of z) → (pairs : List (ℤ × ℤ)) → All IsLoss pairs → NamesBefore (less_seconds pairs) z (total pairs)
-seconds-before z f pairs loss = names-before (less_seconds pairs) z (zoned_nanos z -ℤ nanos_of_seconds (total pairs)) (seconds-law z pairs f loss)
+names-before date z due law t = grind (arith, same-time)

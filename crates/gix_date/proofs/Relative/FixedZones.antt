@@ -1,4 +1,7 @@
 -- Steps in a zone that always has one offset.
+use Rattle.std.proofs.lemmas.Bool.Decides.{nat_tests}
+use Rattle.std.proofs.lemmas.Grind.{common_steps}
+use Rattle.std.proofs.Common.{rules}
 use Rattle.std.proofs.Common.{◌≡◌, ◌∙◌, ◌↔◌, ◌≤◌, ◌+◌, ◌-◌, ℕ, ℤ, pos, negsuc, ◌+ℤ◌, ◌-ℤ◌, ◌*ℤ◌, ◌≤ℤ◌, unsigned_abs, FitsSigned, w64, refl, sym, ap, subst, arith, List, [], ◌∷◌, map, slice_index_or}
 use Rattle.std.specs.Int.{int_div_euclid, int_rem_euclid}
 use Rattle.std.specs.List.{All, sum_by}
@@ -25,8 +28,7 @@ use Rattle.gix_date.specs.declared.parsing.relative.words.TimeUnit.TheVariants.{
 
 -- what such a zone picks is the clock less the offset
 pub fixed-picked : (o : Offset) (civil j : ℤ) → IsPicked (fixed_zone o) civil j → j ≡ civil -ℤ nanos_of_seconds o.seconds
-fixed-picked o civil j h =
-    h.is_choice ∙ picked_instant-fixed_zone o h.shown ∙ ap (λ (n : ℤ). n -ℤ nanos_of_seconds o.seconds) h.civil_is
+fixed-picked o civil j h = grind (arith, picked_instant-fixed_zone)
 
 pub fixed-local : (o : Offset) (i : ℤ) (dt : DateTime) → IsLocal (fixed_zone o) i dt
     → civil_nanos dt ≡ i +ℤ nanos_of_seconds o.seconds
@@ -54,11 +56,6 @@ fixed-resolves-exists o i range =
       local_is = found.1 ∙ ap (λ (s : ℤ). i +ℤ nanos_of_seconds s) (sym (offset_at-fixed_zone o i));
       picked = fixed-picks o found.0 i back range;
     }
-
--- a step of seconds is a plain difference, and exists wherever that is an instant
-pub fixed-seconds-exists : (o : Offset) (n i : ℤ) → IsTimestampNanos (i -ℤ nanos_of_seconds n)
-    → SecondsStep (fixed_zone o) n i (i -ℤ nanos_of_seconds n)
-fixed-seconds-exists o n i range = record { in_range = range; resolves = fixed-resolves-exists o (i -ℤ nanos_of_seconds n) range }
 
 -- Lists of pairs.
 
@@ -145,15 +142,13 @@ pub record IsPlaced (o : Offset) (day : ℕ) (time : TimeOfDay) (m : ℤ) : Type
   pub year_in : IsYear (int_div_euclid m (pos 12))
   pub in_range : IsTimestampNanos (place o day time m)
 
-pub month-in : (m : ℤ)
+pub month_found : (m : ℤ)
     → (1 ≤ unsigned_abs (int_rem_euclid m (pos 12)) + 1) × (unsigned_abs (int_rem_euclid m (pos 12)) + 1 ≤ 12)
-month-in m = omega (arith, signed_arith)
+month_found m = omega (arith, signed_arith)
 
 long-enough : (m : ℤ) (day : ℕ) → IsSmall day
     → (1 ≤ day) × (day ≤ days_in_month (int_div_euclid m (pos 12)) (unsigned_abs (int_rem_euclid m (pos 12)) + 1))
-long-enough m day small =
-    let long = days_in_month_bounds (int_div_euclid m (pos 12)) (unsigned_abs (int_rem_euclid m (pos 12)) + 1) in
-    (small.0, omega (arith, long, small.1))
+long-enough m day small = grind (arith, days_in_month_bounds)
 
 abbrev shown-there : (m : ℤ) (day : ℕ) (time : TimeOfDay) → IsSmall day → IsYear (int_div_euclid m (pos 12)) → DateTime
 shown-there m day time small year = record {
@@ -162,7 +157,7 @@ shown-there m day time small year = record {
     month = unsigned_abs (int_rem_euclid m (pos 12)) + 1;
     day = day;
     year_in = year;
-    month_in = month-in m;
+    month_in = month_found m;
     day_in = long-enough m day small;
   };
   time = time;
@@ -179,10 +174,7 @@ civil-there m day time small year =
 
 local-there : (o : Offset) (m : ℤ) (day : ℕ) (time : TimeOfDay) (small : IsSmall day) (year : IsYear (int_div_euclid m (pos 12)))
     → IsLocal (fixed_zone o) (place o day time m) (shown-there m day time small year)
-local-there o m day time small year =
-    let clock : civil_nanos (shown-there m day time small year) ≡ place o day time m +ℤ nanos_of_seconds o.seconds =
-    omega (arith, signed_arith, civil-there m day time small year) in
-    clock ∙ ap (λ (s : ℤ). place o day time m +ℤ nanos_of_seconds s) (sym (offset_at-fixed_zone o (place o day time m)))
+local-there o m day time small year = grind (arith, nat_tests, common_steps, signed_arith, civil-there, offset_at-fixed_zone)
 
 picked-there : (o : Offset) (m : ℤ) (day : ℕ) (time : TimeOfDay) → IsSmall day → IsPlaced o day time m
     → IsPicked (fixed_zone o) (civil_of (month_start m +ℤ (pos day -ℤ pos 1)) time) (place o day time m)
@@ -224,7 +216,7 @@ month-shorter a b year le =
     let y = int_div_euclid a (pos 12) in
     let m = unsigned_abs (int_rem_euclid a (pos 12)) + 1 in
     let before = days_from_civil-month y (int_div_euclid b (pos 12)) m (unsigned_abs (int_rem_euclid b (pos 12)) + 1) 28 1
-    (year, month-in a, long-enough a 28 (omega arith, omega arith)) (month-in b).0 (month-in b).1 (omega arith) (omega (arith, signed_arith, le, number-there a, number-there b)) in
+    (year, month_found a, long-enough a 28 (omega arith, omega arith)) (month_found b).0 (month_found b).1 (omega arith) (omega (arith, signed_arith, le, number-there a, number-there b)) in
     omega (arith, signed_arith, before, days_from_civil-day y m 1 28 (omega arith) (omega arith))
 
 months-order : (a b : ℤ) → IsYear (int_div_euclid a (pos 12)) → a ≤ℤ b → month_start a ≤ℤ month_start b
@@ -263,9 +255,7 @@ months-chain o day time (p ∷ more) m j small loss here (between, step, rest) =
 pub months-chain-back : (o : Offset) (day : ℕ) (time : TimeOfDay) (pairs : List (ℤ × ℤ)) (m : ℤ) → IsSmall day → All IsLoss pairs
     → FitsSigned w64 (total pairs) → IsPlaced o day time m
     → IsPlaced o day time (m -ℤ total pairs) → Chain (fixed_zone o) (month_steps pairs) (place o day time m) (place o day time (m -ℤ total pairs))
-months-chain-back o day time [] m small loss fits here there =
-    let same : (m -ℤ pos 0) ≡ m = omega (arith, signed_arith) in
-    ap (place o day time) same
+months-chain-back o day time [] m small loss fits here there = search (rules, signed_arith)
 months-chain-back o day time (p ∷ more) m small loss fits here there =
     let falls = All-head IsLoss p more loss in
     let left = total-loss more (All-tail IsLoss p more loss) in

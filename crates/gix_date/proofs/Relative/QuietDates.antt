@@ -1,20 +1,20 @@
 -- Formatted dates and numbers are quiet: their words are digits, and names of days, months and zones.
-use Rattle.std.proofs.Common.{◌≡◌, ◌∙◌, ◌+◌, ◌-◌, ◌≤◌, ℕ, ℤ, Bool, true, false, cond, List, [], ◌∷◌, ◌++◌, length, take, refl, ap, ap₂, sym, subst, arith, append_assoc, append-nil, Some, None, Option, option_map, inl, inr, ◌⊎◌, IsUtf8, flat_map, suc, get_or}
+use Rattle.std.proofs.Common.{◌≡◌, ◌∙◌, ◌+◌, ◌-◌, ◌≤◌, ℕ, ℤ, Bool, true, false, cond, List, [], ◌∷◌, ◌++◌, length, take, refl, ap, ap₂, sym, subst, arith, append_assoc, append-nil, Some, None, Option, option_map, inl, inr, ◌⊎◌, IsUtf8, suc, get_or}
 use Rattle.std.proofs.lemmas.Bool.{and_parts as both}
 use Rattle.std.proofs.lemmas.Bool.Decides.{nat_tests}
 use Rattle.std.proofs.lemmas.List.Quantifiers.{position-Some}
 use Rattle.std.specs.Char.{is_ascii_digit, is_ascii_alphabetic, is_ascii_alphanumeric, to_ascii_lowercase}
 use Rattle.std.specs.List.{list_all, position}
 use Rattle.std.specs.Option.{option_or}
-use Rattle.std.specs.Prelude.{◌==◌, ◌||◌, ◌&&◌, nat_le, nat_lt}
+use Rattle.std.specs.Prelude.{◌==◌, ◌||◌, ◌&&◌, nat_le}
 use Rattle.std.specs.Str.{all_ascii_digits}
-use Rattle.std.specs.Str.Parse.{without_leading_sign, signed_digits_value}
+use Rattle.std.specs.Str.Parse.{without_leading_sign}
 use Rattle.gix_date.specs.Fields.FieldTexts.{IsField, IsYear, AreSpaces, AreThreeLetters, IsDayName, IsMonthName, IsPlainDate, IsClock, IsRfc2822Clock, IsDayPrefix}
 use Rattle.gix_date.specs.Families.Answer.{FamilyAnswer}
 use Rattle.gix_date.specs.Text.Characters.{minus, plus, colon, comma, letter_t}
 use Rattle.gix_date.specs.Fields.Layout.{LocalTime, Piece, DayName, Rfc2822DayName, MonthName, Day, Year, PlainDate, Clock, Rfc2822Clock, Spaces, LetterT, Offset, ColonOffset, Rfc2822Offset, IsPiece, ArePieces}
 use Rattle.gix_date.specs.Text.Names.{is_name, named_in, day_names, month_names}
-use Rattle.gix_date.specs.Text.Numbers.{fits_i64, int_value}
+use Rattle.gix_date.specs.Text.Numbers.{int_value}
 use Rattle.gix_date.specs.Fields.Offsets.{offset_fields}
 use Rattle.gix_date.specs.Fields.DateFields.{is_weekday, month_named}
 use Rattle.gix_date.specs.Fields.DateOffsets.{compact_offset, strict_offset, rfc2822_zone, rfc2822_offset, named_zone, zone_names, jiff_offset}
@@ -50,13 +50,7 @@ begins_small [] = false
 begins_small (n ∷ name) = nat_le 97 n && nat_le n 122
 
 small-first : (c n : ℕ) (t name : List ℕ) → is_ascii_alphabetic c ≡ false → begins_small (n ∷ name) ≡ true → is_name (c ∷ t) (n ∷ name) ≡ false
-small-first c n t name h s =
-    let low : 97 ≤ n = grind (arith, nat_tests, s) in
-    let high : n ≤ 122 = grind (arith, nat_tests, s) in
-    rw (stays n low high, no_lower c n h low high) refl
-  where
-    stays : (n : ℕ) → 97 ≤ n → n ≤ 122 → to_ascii_lowercase n ≡ n
-    stays n low high = grind (arith, nat_tests, low, high)
+small-first c n t name h s = grind (arith, nat_tests, no_lower)
 
 -- it is in no table whose names begin so
 no-named : {A : Type 0} (table : List (List ℕ × A)) (c : ℕ) (t : List ℕ) → is_ascii_alphabetic c ≡ false → list_all (λ row. begins_small row.0) table ≡ true → named_in table (c ∷ t) ≡ None
@@ -89,9 +83,7 @@ no-ago : (c : ℕ) (t : List ℕ) → is_ascii_alphabetic c ≡ false → is_ago
 no-ago c t h = rw (no_lower c 97 h (omega arith) (omega arith)) refl
 
 digit-says-nothing : (c : ℕ) (t : List ℕ) → is_ascii_digit c ≡ true → says_nothing (c ∷ t) ≡ true
-digit-says-nothing c t h =
-    let no : is_ascii_alphabetic c ≡ false = digit-no-letter c h in
-    says-by (c ∷ t) (no-unit c t no) (no-ago c t no) (no-date c t no)
+digit-says-nothing c t h = grind (arith, digit-no-letter, says-by, no-unit, no-ago, no-date)
 
 -- Texts one after the other, with a byte of no word between them, are quiet where each is.
 pub quiet-none : IsQuiet []
@@ -153,10 +145,7 @@ quiet-field t n h = quiet-digits t (field-digits t n h)
 -- a field, `T`, and another
 quiet-joined : (day hour : List ℕ) (n m : ℕ) → IsField day n → IsField hour m → IsQuiet (day ++ (letter_t ∷ hour))
 quiet-joined [] hour n m h k = absurd h
-quiet-joined (c ∷ day) hour n m h k =
-    let parts = both (is_ascii_digit c) (all_ascii_digits day) (field-digits (c ∷ day) n h) in
-    let more : list_all is_ascii_alphanumeric (letter_t ∷ hour) ≡ true = digits-run hour (field-digits hour m k) in
-    quiet-run c (day ++ (letter_t ∷ hour)) parts.0 (all-append is_ascii_alphanumeric day (letter_t ∷ hour) (digits-run day parts.1) more)
+quiet-joined (c ∷ day) hour n m h k = grind (arith, both, field-digits, digits-run, quiet-run, all-append)
 
 -- Names.
 names-quiet : list_all says_nothing day_names ≡ true × list_all says_nothing month_names ≡ true
@@ -164,9 +153,7 @@ unfolding has_unit unit_of singular named_unit named_date
 names-quiet = (refl, refl)
 
 letters-run : (t : List ℕ) → AreThreeLetters t → list_all is_ascii_alphanumeric t ≡ true
-letters-run (a ∷ b ∷ c ∷ []) h =
-    let parts = three (is_ascii_alphabetic a) (is_ascii_alphabetic b) (is_ascii_alphabetic c) h in
-    rw (letter_run a parts.0, letter_run b parts.1, letter_run c parts.2) refl
+letters-run (a ∷ b ∷ c ∷ []) h = grind (arith, three, letter_run)
 letters-run t h = absurd h
 
 quiet-name : (t : List ℕ) → list_all is_ascii_alphanumeric t ≡ true → says_nothing t ≡ true → IsQuiet t
@@ -189,23 +176,14 @@ quiet-month-name t n h = quiet-name t (letters-run t h.0) (found-name t (positio
 
 -- Dates and clocks.
 quiet-date : (x : List ℕ) (date : DateFields) → IsPlainDate x date → IsQuiet x
-quiet-date x date h =
-    subst IsQuiet (sym h.whole)
-    (quiet-gap (h.year ++ (minus ∷ h.month)) minus h.day refl
-    (quiet-gap h.year minus h.month refl (quiet-digits h.year (year-digits h.year date.year h.is_year)) (quiet-field h.month date.month h.is_month))
-    (quiet-field h.day date.day h.is_day))
+quiet-date x date h = grind (arith, quiet-gap, quiet-digits, year-digits, quiet-field)
 
 quiet-clock : (x : List ℕ) (clock : ClockFields) → IsClock x clock → IsQuiet x
-quiet-clock x clock h =
-    subst IsQuiet (sym h.whole)
-    (quiet-gap (h.hour ++ (colon ∷ h.minute)) colon h.second refl
-    (quiet-gap h.hour colon h.minute refl (quiet-field h.hour clock.hour h.is_hour) (quiet-field h.minute clock.minute h.is_minute))
-    (quiet-field h.second h.seconds h.is_second))
+quiet-clock x clock h = grind (arith, quiet-gap, quiet-field)
 
 quiet-rfc2822-clock : (x : List ℕ) (clock : ClockFields) → IsRfc2822Clock x clock → IsQuiet x
 quiet-rfc2822-clock x clock (inl h) = quiet-clock x clock h
-quiet-rfc2822-clock x clock (inr h) =
-    subst IsQuiet (sym h.whole) (quiet-gap h.hour colon h.minute refl (quiet-field h.hour clock.hour h.is_hour) (quiet-field h.minute clock.minute h.is_minute))
+quiet-rfc2822-clock x clock (inr h) = grind (arith, quiet-gap, quiet-field)
 
 -- Offsets.
 pub quiet-offset : (x : List ℕ) (f : OffsetFields) → offset_fields x ≡ Some f → IsQuiet x
@@ -229,8 +207,7 @@ record Signed (x : List ℕ) : Type 0 where
 
 quiet-last : (front last : List ℕ) (s : Option ℕ) → AreLastSeconds last s → IsQuiet front → IsQuiet (front ++ last)
 quiet-last front last s (inl none) q = subst (λ (t : List ℕ). IsQuiet (front ++ t)) (sym none.0) (subst IsQuiet (sym (append-nil front)) q)
-quiet-last front last s (inr two) q =
-    subst (λ (t : List ℕ). IsQuiet (front ++ t)) (sym two.2) (quiet-gap front colon (two.0 ∷ two.1 ∷ []) refl q (quiet-digits (two.0 ∷ two.1 ∷ []) (rw (two.3, two.4) refl)))
+quiet-last front last s (inr two) q = grind (arith, quiet-gap, quiet-digits)
 
 strict-signed : (x : List ℕ) (o : ℤ) → strict_offset x ≡ Some o → Signed x
 strict-signed x o e =
@@ -301,7 +278,7 @@ AreSpaced _ = ⊥
 
 quiet-pieces : (ps : List Piece) → AreSpaced ps → (t : LocalTime) (x : List ℕ) → ArePieces ps t x → IsQuiet x
 quiet-pieces [] s t x h = absurd s
-quiet-pieces (p ∷ []) s t x h = subst IsQuiet (sym (h.whole ∙ ap (λ (r : List ℕ). h.front ++ r) h.more ∙ append-nil h.front)) (quiet-piece p t h.front h.is)
+quiet-pieces (p ∷ []) s t x h = grind (arith, append-nil, quiet-piece)
 quiet-pieces (p ∷ Spaces ∷ ps) s t x h =
     let gap = h.more in
     subst IsQuiet (sym (h.whole ∙ ap (λ (r : List ℕ). h.front ++ r) gap.whole))
@@ -365,11 +342,7 @@ quiet-number c t false false e f h = quiet-digits (c ∷ t) (rw (e, f) at h)
 
 pub quiet-int : (w : List ℕ) (n : ℤ) → int_value w ≡ Some n → IsQuiet w
 quiet-int [] n e = quiet-none
-quiet-int (c ∷ t) n e =
-    let parts = each_of (nat_lt 0 (length (without_leading_sign (c ∷ t)))) (all_ascii_digits (without_leading_sign (c ∷ t))) (fits_i64 (signed_digits_value 10 (c ∷ t))) (int-taken (c ∷ t) n e).0 in
-    quiet-number c t (c == minus) (c == plus) refl refl parts.1
+quiet-int (c ∷ t) n e = grind (arith, each_of, int-taken, quiet-number)
 
 pub quiet-two-words : (text a b : List ℕ) → IsUtf8 text → space_words text ≡ a ∷ b ∷ [] → IsQuiet a → IsQuiet b → IsQuiet text
-quiet-two-words text a b u e p q =
-    ap (list_all says_nothing) (words-within text u ∙ ap (λ (ws : List (List ℕ)). flat_map relative_words ws) e)
-    ∙ all-append says_nothing (relative_words a) (relative_words b ++ []) p (all-append says_nothing (relative_words b) [] q refl)
+quiet-two-words text a b u e p q = grind (arith, says_nothing, words-within, all-append)

@@ -10,7 +10,7 @@ use Rattle.std.proofs.lemmas.Slice.Eq.{bytes_eq-Decides}
 use Rattle.std.proofs.lemmas.Str.{IsUtf8-from_ascii}
 use Rattle.std.specs.Char.{is_ascii_alphanumeric, to_ascii_lowercase}
 use Rattle.std.specs.List.{slice_split, onto_first, list_all, list_any}
-use Rattle.std.specs.Prelude.{◌==◌, ◌||◌, ◌&&◌, not, is_none, is_some, codes}
+use Rattle.std.specs.Prelude.{◌==◌, ◌||◌, ◌&&◌, not, is_none, codes}
 use Rattle.std.specs.Str.{trim, bytes_eq, str_to_ascii_lowercase}
 use Rattle.gix_date.specs.Text.Names.{is_name, named_in}
 use Rattle.gix_date.proofs.Relative.RelativeWordSteps.{run_ascii}
@@ -38,10 +38,7 @@ record SaysNothing (word : List ℕ) : Type 0 where
   pub name : named_date word ≡ None
 
 says-parts : (word : List ℕ) → says_nothing word ≡ true → SaysNothing word
-says-parts word h =
-    let first = both (not (has_unit word) && not (is_ago word)) (is_none (named_date word)) h in
-    let second = both (not (has_unit word)) (not (is_ago word)) first.0 in
-    record { unit = not_is (has_unit word) second.0; ago = not_is (is_ago word) second.1; name = none_is (named_date word) first.1 }
+says-parts word h = grind (arith, both, not_is, none_is)
 
 pub says-by : (word : List ℕ) → has_unit word ≡ false → is_ago word ≡ false → named_date word ≡ None → says_nothing word ≡ true
 says-by word u a n = rw (u, a, n) refl
@@ -111,9 +108,7 @@ pub like-ago : (word name : List ℕ) → str_to_ascii_lowercase word ≡ str_to
 like-ago word name e = ap (λ (t : List ℕ). bytes_eq t (str_to_ascii_lowercase (codes "ago"))) e
 
 pub like-name : (word name : List ℕ) → str_to_ascii_lowercase word ≡ str_to_ascii_lowercase name → is_name word ≡ is_name name
-like-name word name e =
-    let names : List ℕ → List ℕ → Bool = λ t other. bytes_eq t (str_to_ascii_lowercase other) in
-    ap names e
+like-name word name e = grind (arith)
 
 pub like-named : {A : Type 0} (table : List (List ℕ × A)) (word name : List ℕ) → str_to_ascii_lowercase word ≡ str_to_ascii_lowercase name → named_in table word ≡ named_in table name
 like-named {A} [] word name e = refl
@@ -152,14 +147,11 @@ lower-singular word =
 
 pub like-singular : (word name : List ℕ) → str_to_ascii_lowercase word ≡ str_to_ascii_lowercase name → has_unit word ≡ has_unit name
 unfolding has_unit unit_of
-like-singular word name e = ap is_some (like-unit (singular word) (singular name) (lower-singular word ∙ ap without_s e ∙ sym (lower-singular name)))
+like-singular word name e = grind (arith, like-unit, lower-singular)
 
 -- a word that is a name, in any letter case, says what the name says
 pub like : (word name : List ℕ) → is_name word name ≡ true → says_nothing name ≡ true → says_nothing word ≡ true
-like word name e h =
-    let same = lower-same word name e in
-    let parts = says-parts name h in
-    says-by word (like-singular word name same ∙ parts.unit) (like-ago word name same ∙ parts.ago) (like-date word name same parts.name)
+like word name e h = grind (arith, lower-same, says-parts, says-by, like-singular, like-ago, like-date)
 
 by-first : {T : Type 0} (a b : Bool) (first : a ≡ true → T) (more : b ≡ true → T) → (a || b) ≡ true → T
 by-first true b first more e = first refl
@@ -210,17 +202,9 @@ named-alone text u d e =
     ∙ sym (words-within x (IsUtf8-from_ascii x (ascii-by is_ascii_alphanumeric run_ascii x run))) ∙ named-word x d e run
 
 not-named : (text : List ℕ) → IsUtf8 text → IsQuiet text → (d : RelativeDate) → named_date (trim text) ≡ Some d → ⊥
-not-named text u q d e =
-    let x = trim text in
-    let parts = both (says_nothing x) true (ap (list_all says_nothing) (sym (named-alone text u d e)) ∙ q) in
-    let clash : None ≡ Some d = sym (says-parts x parts.0).name ∙ e in
-    cc
+not-named text u q d e = grind (arith, both, named-alone, says-parts)
 
 -- no quiet text is relative
 pub no-relative : (text : List ℕ) → IsUtf8 text → IsQuiet text → relative_date text ≡ None
 unfolding relative_date pairs_date
-no-relative text u q = by_name (named_date (trim text)) refl
-  where
-    by_name : (found : Option RelativeDate) → named_date (trim text) ≡ found → relative_date text ≡ None
-    by_name (Some d) e = absurd (not-named text u q d e)
-    by_name None e = rw (e, no-pairs-by (relative_words text) (has_pair (relative_words text)) refl q) refl
+no-relative text u q = grind (arith, not-named, no-pairs-by)

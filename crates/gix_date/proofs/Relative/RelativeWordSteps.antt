@@ -90,9 +90,9 @@ word_byte : (c : ℕ) → is_gap c ≡ false → c < 128
 word_byte c h = grind (arith, nat_tests, h)
 
 -- a text may be cut where a word begins
-pub cut_before : (bs : List ℕ) (n : ℕ) → n ≡ prefix_len is_gap bs → IsCharBoundary bs n
-cut_before bs n e = (omega (arith, prefix_len-le-length is_gap bs), λ short big. absurd (let small : get_or bs n 0 < 128 = word_byte (get_or bs n 0) (subst (λ k. is_gap (get_or bs k 0) ≡ false) (sym e) (prefix_len_stops is_gap bs 0 (omega arith))) in omega arith))
+pub gap_end : (text : List ℕ) → IsCharBoundary text (prefix_len is_gap text)
+gap_end text = (omega (arith, prefix_len-le-length is_gap text), λ short big. absurd (let small : get_or text (prefix_len is_gap text) 0 < 128 = word_byte _ (prefix_len_stops is_gap text 0 (omega arith)) in omega arith))
 
 -- and where it ends
-pub cut_after : (bs : List ℕ) (n : ℕ) → IsUtf8 bs → n ≡ prefix_len is_ascii_alphanumeric bs → IsCharBoundary bs n
-cut_after bs n u e = cut_rest is_ascii_alphanumeric run_ascii bs n u (omega arith)
+pub word_end : (text : List ℕ) → IsUtf8 text → IsCharBoundary text (prefix_len is_ascii_alphanumeric text)
+word_end text u = cut_rest is_ascii_alphanumeric run_ascii text _ u (omega arith)

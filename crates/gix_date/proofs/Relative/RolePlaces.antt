@@ -1,4 +1,5 @@
 -- The tests of places, as facts of lists that the words are cut into.
+use Rattle.std.proofs.Common.{arith}
 use Rattle.std.proofs.Common.{◌≡◌, ℕ, Bool, true, List, [], ◌∷◌, ◌++◌, refl, sym, ap, ◌∙◌, subst, inl, inr, append_assoc, append-nil}
 use Rattle.std.proofs.lemmas.Bool.{and_parts as and_cases, or_cases, or_left, or_right, and_from as and_both}
 use Rattle.std.specs.Prelude.{not, ◌&&◌, ◌||◌, ◌⊎◌, ◌↔◌, IsTrue}
@@ -98,10 +99,7 @@ second_back ws (inr h) = or_right (all_units ws) (has_flag ws) (flag_join ws h)
 
 pub meant : (ws : List (List ℕ)) → (are_pairs ws ≡ true) ↔ ArePairs ws
 unfolding are_pairs
-meant ws = (
-  λ h. let both = and_cases (has_pair ws) (all_units ws || has_flag ws) h in (pair_split ws both.0, second ws (or_cases (all_units ws) (has_flag ws) both.1)),
-  λ h. and_both (has_pair ws) (all_units ws || has_flag ws) (pair_join ws h.0) (second_back ws h.1),
-)
+meant ws = grind (arith, and_cases, pair_split, second, or_cases, and_both, pair_join, second_back)
 
 pub meant_by : (ws : List (List ℕ)) (r : Bool) → r ≡ are_pairs ws → IsTrue r ↔ ArePairs ws
 meant_by ws r e = (λ h. (meant ws).0 (sym e ∙ h), λ h. e ∙ (meant ws).1 h)

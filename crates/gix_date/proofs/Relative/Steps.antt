@@ -1,4 +1,5 @@
 -- Steps that take a moment back, from what jiff's calls say.
+use Rattle.std.proofs.Common.{rules}
 use Rattle.std.proofs.Common.{◌≡◌, ◌∙◌, ◌↔◌, ◌+◌, ℤ, pos, ◌+ℤ◌, ◌-ℤ◌, unsigned_abs, FitsSigned, w64, refl, sym, ap, subst, arith, Option, None, Some}
 use Rattle.std.specs.Int.{int_div_euclid, int_rem_euclid}
 use Rattle.std.specs.Prelude.{IsSome, IfSome}
@@ -32,8 +33,7 @@ picked-none tz date time dt j d t beyond h =
 
 -- the day of what is picked is that of a date
 picked-day : (tz : TimeZone) (day : ℤ) (time : TimeOfDay) (j : ℤ) → (h : IsPicked tz (civil_of day time) j) → epoch_day h.shown.date ≡ day
-picked-day tz day time j h =
-    omega (arith, signed_arith, h.civil_is, civil_nanos-parts h.shown, time_nanos_bound h.shown.time, time_nanos_bound time)
+picked-day tz day time j h = grind (arith, signed_arith, civil_nanos-parts, time_nanos_bound)
 
 -- Months and days.
 
@@ -41,24 +41,17 @@ pub month_pos : (z : ℤ) → int_rem_euclid z (pos 12) +ℤ pos 1 ≡ pos (unsi
 month_pos z = omega (arith, signed_arith)
 
 pub first-exists : (y m : ℤ) → IsYear y → IsBetween (pos 1) (pos 12) m → IsDate y m (pos 1)
-first-exists y m year month =
-    let long = days_in_month_bounds y (unsigned_abs m) in
-    (year, month, (omega (arith, signed_arith), omega (arith, signed_arith, long)))
+first-exists y m year month = grind (arith, days_in_month_bounds, signed_arith)
 
 -- the first of a month
 pub first-is : (number : ℤ) (first : Date) → IsYmd (int_div_euclid number (pos 12)) (int_rem_euclid number (pos 12) +ℤ pos 1) (pos 1) first → epoch_day first ≡ month_start number
-first-is number first ymd =
-    let month : first.month ≡ unsigned_abs (int_rem_euclid number (pos 12)) + 1 = ap (λ (z : ℤ). unsigned_abs z) (ymd.1 ∙ month_pos number) in
-    let one : first.day ≡ 1 = ap (λ (z : ℤ). unsigned_abs z) ymd.2 in
-    rw (ymd.0, month, one) refl
+first-is number first ymd = grind (arith, month_pos)
 
 pub year_of : (d : Date) → int_div_euclid (month_number d) (pos 12) ≡ d.year
-year_of d =
-    omega (arith, signed_arith, d.month_in)
+year_of d = search (rules, signed_arith)
 
 month_of : (d : Date) → unsigned_abs (int_rem_euclid (month_number d) (pos 12)) + 1 ≡ d.month
-month_of d =
-    omega (arith, signed_arith, d.month_in, one_part (int_rem_euclid (month_number d) (pos 12)))
+month_of d = grind (arith, signed_arith, one_part)
 
 -- a date is its day of its month
 pub day_of : (d : Date) → rolled_day (month_number d) d ≡ epoch_day d
@@ -71,12 +64,8 @@ pub before-from : (date : Date) (months : ℤ) (first : Date) (before : Option D
     → IsYear (int_div_euclid (month_before date months) (pos 12)) → epoch_day first ≡ month_start (month_before date months)
     → (IsSome before ↔ IsEpochDay (epoch_day first +ℤ (pos date.day -ℤ pos 1))) → IfSome before (λ d. epoch_day d ≡ epoch_day first +ℤ (pos date.day -ℤ pos 1))
     → IsMonthsBeforeIfAny date months before
-before-from date months first None fits year start some day = λ before h.
-    let is : epoch_day before ≡ epoch_day first +ℤ (pos date.day -ℤ pos 1) = h.day_is ∙ ap (λ (s : ℤ). s +ℤ (pos date.day -ℤ pos 1)) (sym start) in
-    let none = some.1 (subst IsEpochDay is (epoch_day_range before)) in
-    absurd cc
-before-from date months first (Some before) fits year start some day =
-    record { fits = fits; year_in = year; day_is = day ∙ ap (λ (s : ℤ). s +ℤ (pos date.day -ℤ pos 1)) start }
+before-from date months first None fits year start some day = grind (arith, epoch_day_range)
+before-from date months first (Some before) fits year start some day = grind (arith)
 
 -- Steps.
 
@@ -85,8 +74,7 @@ pub shows-local : (z : PlainZoned) → IsLocal z.time_zone z.timestamp.nanosecon
 shows-local z = z.shows ∙ ap (λ (s : ℤ). z.timestamp.nanosecond +ℤ nanos_of_seconds s) z.offset_is
 
 pub resolves-is : (tz : TimeZone) (i j : ℤ) (shown : DateTime) → IsLocal tz i shown → j ≡ picked_instant tz shown → IsTimestampNanos j → Resolves tz i j
-resolves-is tz i j shown l is range =
-    record { local = shown; local_is = l; picked = record { shown = shown; civil_is = refl; is_choice = is; in_range = range } }
+resolves-is tz i j shown l is range = search (rules)
 
 pub resolves-none : (tz : TimeZone) (i j : ℤ) (shown : DateTime) → IsLocal tz i shown → ¬ (IsTimestampNanos (picked_instant tz shown)) → Resolves tz i j → ⊥
 resolves-none tz i j shown l beyond h =
@@ -123,9 +111,9 @@ months-none tz n i j shown l none g =
     none from.2.shown.date (record { fits = from.0; year_in = from.1; day_is = picked-day tz _ shown.time j from.2 })
 
 -- the same instants, said otherwise
-pub at-same : (moment : Option Zoned) (Such Same : ℤ → Type 0) → ((j : ℤ) → Such j → Same j) → ((j : ℤ) → Same j → Such j) → IsAt Such moment → IsAt Same moment
-at-same None Such Same f g h = λ j s. h j (g j s)
-at-same (Some moment) Such Same f g h = f (zoned_nanos moment) h
+pub at_same : (moment : Option Zoned) (Such Same : ℤ → Type 0) → ((j : ℤ) → Such j → Same j) → ((j : ℤ) → Same j → Such j) → IsAt Such moment → IsAt Same moment
+at_same None Such Same f g h = λ j s. h j (g j s)
+at_same (Some moment) Such Same f g h = f (zoned_nanos moment) h
 
 -- Each step leads to one instant.
 

@@ -20,8 +20,8 @@ high-bits bytes n within small =
     ∙ mask_l-mod (map (leb 128) block) 64 (omega (arith, length-map block (leb 128)))
 
 -- a vector that has no such bit is ASCII
-pub block-is-ascii : (bytes : List ℕ) (n : ℕ) → n ≤ length bytes → n ≤ 64 → eqb (high_bits n bytes) 0 ≡ true → IsAscii (take n bytes)
-block-is-ascii bytes n within small none i = elim (cases_lt i n) [
+pub block_is_ascii : (bytes : List ℕ) (n : ℕ) → n ≤ length bytes → n ≤ 64 → eqb (high_bits n bytes) 0 ≡ true → IsAscii (take n bytes)
+block_is_ascii bytes n within small none i = elim (cases_lt i n) [
   | inl l ↦ subst (λ b. b < 128) (sym (get_or-take n bytes i 0 l))
       (leb-false 128 _ (none_from_empty_mask (leb 128) bytes 0 n 0 (omega arith) (sym (high-bits bytes n within small) ∙ eqb-true _ _ none) i (omega arith) (omega arith)))
   | inr g ↦ omega (arith, get_or_past (take n bytes) i 0 (omega (arith, length-take-le n bytes within)))

@@ -3,7 +3,7 @@ use Rattle.std.proofs.Common.{◌≡◌, ℕ, ◌+◌, ◌-◌, ◌<◌, ◌≤�
 use Rattle.std.proofs.lemmas.Bool.{and_parts as both, and_from}
 use Rattle.std.proofs.lemmas.Bool.Decides.{nat_tests}
 use Rattle.std.proofs.lemmas.List.Sums.{prefix_len-le-length, prefix_len_passes}
-use Rattle.std.proofs.lemmas.Str.{IsCharBoundary-after_ascii, IsCharBoundary-start}
+use Rattle.std.proofs.lemmas.Str.{IsCharBoundary-after_ascii, IsCharBoundary-start, IsUtf8-from_ascii}
 use Rattle.std.proofs.lemmas.Str.Ascii.{IsAscii-nil, IsAscii-cons}
 use Rattle.std.specs.Char.{is_ascii_digit, is_ascii_alphabetic}
 use Rattle.std.specs.List.{prefix_len, list_all}
@@ -31,6 +31,25 @@ pub cut_rest : (p : ℕ → Bool) → ((c : ℕ) → p c ≡ true → c < 128) �
 cut_rest p ascii bs zero u h = IsCharBoundary-start bs u
 cut_rest p ascii bs (suc n) u h = subst (IsCharBoundary bs) (omega arith) (IsCharBoundary-after_ascii bs n u (omega (arith, prefix_len-le-length p bs)) (ascii (get_or bs n 0) (prefix_len_passes p bs n 0 (omega arith))))
 
+-- the digits, or the spaces, that a text begins with end where no character is cut
+pub digits_end : (text : List ℕ) → IsUtf8 text → IsCharBoundary text (prefix_len is_ascii_digit text)
+digits_end text u = cut_rest is_ascii_digit digit_is_ascii text _ u (omega arith)
+
+pub spaces_end : (text : List ℕ) → IsUtf8 text → IsCharBoundary text (prefix_len is_space text)
+spaces_end text u = cut_rest is_space space_is_ascii text _ u (omega arith)
+
+-- so does an empty front
+pub empty_end : (text : List ℕ) → IsUtf8 text → IsCharBoundary text 0
+empty_end text u = IsCharBoundary-start text u
+
+-- and its first byte, if it is ASCII
+pub first_end : (text : List ℕ) → IsUtf8 text → 0 < length text → get_or text 0 0 < 128 → IsCharBoundary text 1
+first_end text u long small = IsCharBoundary-after_ascii text 0 u long small
+
+-- ASCII is UTF-8
+pub ascii_is_utf8 : (text : List ℕ) → IsAscii text → IsUtf8 text
+ascii_is_utf8 text ascii = IsUtf8-from_ascii text ascii
+
 -- a text whose bytes pass a test that passes ASCII alone
 pub ascii-by : (p : ℕ → Bool) → ((c : ℕ) → p c ≡ true → c < 128) → (t : List ℕ) → list_all p t ≡ true → IsAscii t
 ascii-by p ascii [] h = IsAscii-nil
@@ -44,8 +63,8 @@ ones_ascii : (tens ones m : ℕ) → Some m ≡ two_digit_value tens ones → on
 ones_ascii tens ones m h = digit_is_ascii ones (second_holds (is_ascii_digit tens) (is_ascii_digit ones) _ m h)
 
 -- after two digits, the second of which is this one
-pub cut-pair : (bytes text : List ℕ) (last m : ℕ) → bytes ≡ text → IsUtf8 text → last < length bytes
+pub cut_pair : (bytes text : List ℕ) (last m : ℕ) → bytes ≡ text → IsUtf8 text → last < length bytes
     → Some m ≡ two_digit_value (get_or bytes (last - 1) 0) (get_or bytes last 0) → IsCharBoundary text (last + 1)
-cut-pair bytes text last m e u n value =
+cut_pair bytes text last m e u n value =
     let ascii = ones_ascii (get_or bytes (last - 1) 0) (get_or bytes last 0) m value in
     IsCharBoundary-after_ascii text last u (omega (arith, ap length e)) (subst (λ bs. get_or bs last 0 < 128) e ascii)

@@ -14,5 +14,5 @@ pub length-decimal_most : (n : ℕ) → n < 2 ^ 64 → length (decimal n) ≤ 20
 length-decimal_most n small = length-decimal-le 20 n (omega arith) (omega arith) small
 
 -- as far from 0 as an i64 can be
-pub length-decimal_i64 : (n : ℕ) → n ≤ 2 ^ 63 → length (decimal n) ≤ 19
-length-decimal_i64 n small = length-decimal-le 19 n (omega arith) (omega arith) (omega arith)
+pub length_decimal_i64 : (n : ℕ) → n ≤ 2 ^ 63 → length (decimal n) ≤ 19
+length_decimal_i64 n small = length-decimal-le 19 n (omega arith) (omega arith) (omega arith)

@@ -1,5 +1,6 @@
 -- Which texts are not raw, not of a Git form and no plain date, by their first bytes.
-use Rattle.std.proofs.Common.{◌≡◌, ◌∙◌, ℕ, true, false, List, [], ◌∷◌, ◌++◌, refl, ap, sym, subst, Some, None, IsUtf8}
+use Rattle.std.proofs.Common.{arith}
+use Rattle.std.proofs.Common.{◌≡◌, ◌∙◌, ℕ, true, false, List, [], ◌∷◌, ◌++◌, refl, ap, sym, Some, None, IsUtf8}
 use Rattle.std.specs.Char.{is_ascii_digit}
 use Rattle.std.specs.Str.{trim}
 use Rattle.gix_date.specs.Text.Characters.{minus}
@@ -63,6 +64,4 @@ plain-year x date e =
     record { year = y.text; number = year.0.0; rest = next.0; whole = y.whole ∙ ap (λ (t : List ℕ). y.text ++ t) (after-taken minus year.0.1 next.0 next.1); is_year = y.is }
 
 pub plain-front : (x : List ℕ) (date : DateFields × List ℕ) → read_plain_date x ≡ Some date → GitFront x
-plain-front x date e =
-    let p = plain-year x date e in
-    subst GitFront (sym p.whole) (year-front p.year p.number minus p.rest p.is_year refl refl)
+plain-front x date e = grind (arith, plain-year, year-front)

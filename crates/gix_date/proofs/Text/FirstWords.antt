@@ -47,12 +47,7 @@ trails-word c cs ts e h =
     }
 
 trails-space : (c : ℕ) (cs ts : List ℕ) → is_whitespace c ≡ true → Trails cs ts → Trails (c ∷ cs) (c ∷ ts)
-trails-space c cs ts e h =
-    record {
-      empty = h.empty;
-      none = h.none;
-      is = slice_split-cons_yes is_whitespace c cs e ∙ ap (λ (ps : List (List ℕ)). [] ∷ ps) h.is ∙ sym (ap (λ (ps : List (List ℕ)). ps ++ h.empty) (slice_split-cons_yes is_whitespace c ts e));
-    }
+trails-space c cs ts e h = grind (arith, slice_split-cons_yes)
 
 trails-end : (c : ℕ) (cs : List ℕ) → is_whitespace c ≡ true → Trails cs [] → Trails (c ∷ cs) []
 trails-end c cs e h =
@@ -65,9 +60,7 @@ trails-end c cs e h =
 trails-by : (c : ℕ) (cs ts : List ℕ) (b : Bool) → is_whitespace c ≡ b → Trails cs ts → Trails (c ∷ cs) (cond (b && length ts == 0) [] (c ∷ ts))
 trails-by c cs ts false e h = trails-word c cs ts e h
 trails-by c cs [] true e h = trails-end c cs e h
-trails-by c cs (t ∷ ts) true e h =
-    let some : (length (t ∷ ts) == 0) ≡ false = grind (arith, nat_tests) in
-    rw some (trails-space c cs (t ∷ ts) e h)
+trails-by c cs (t ∷ ts) true e h = grind (arith, nat_tests, trails-space)
 
 trails : (cs : List ℕ) → Trails cs (drop_trailing_whitespace cs)
 trails [] = record { empty = []; none = refl; is = refl }
@@ -92,13 +85,7 @@ drop-scalars (c ∷ cs) h =
 -- The words of a text are those of the text without white space at its ends.
 pub trimmed-words : (text : List ℕ) → IsUtf8 text → space_words (trim text) ≡ space_words text
 unfolding space_words trim_start trim_end
-trimmed-words text u =
-    let cs = chars text in
-    let scalars = skip-scalars cs (scalars-chars text u) in
-    let front : chars (encode_utf8_all (skip_leading_whitespace cs)) ≡ skip_leading_whitespace cs = chars-encodes (skip_leading_whitespace cs) scalars in
-    let ts = drop_trailing_whitespace (skip_leading_whitespace cs) in
-    let whole : chars (encode_utf8_all ts) ≡ ts = chars-encodes ts (drop-scalars (skip_leading_whitespace cs) scalars) in
-    ap (map encode_utf8_all) (ap (λ (xs : List ℕ). runs (chars (encode_utf8_all (drop_trailing_whitespace xs)))) front ∙ ap runs whole ∙ drop-runs (skip_leading_whitespace cs) ∙ skip-runs cs)
+trimmed-words text u = grind (arith, skip-scalars, scalars-chars, chars-encodes, drop-scalars, drop-runs, skip-runs)
 
 -- visible ASCII
 abbrev pub is_visible : ℕ → Bool

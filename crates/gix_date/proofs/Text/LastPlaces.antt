@@ -1,5 +1,5 @@
 -- Last places, as a search from the end finds them and as a fact.
-use Rattle.std.proofs.Common.{◌≡◌, ℕ, ◌<◌, ◌≤◌, Bool, true, false, cond, List, length, get_or, refl, sym, ap, ◌∙◌, subst, Option, Some, None, arith, zero, suc}
+use Rattle.std.proofs.Common.{◌≡◌, ℕ, ◌<◌, ◌≤◌, Bool, true, false, cond, List, length, get_or, refl, sym, ap, ◌∙◌, Option, Some, None, arith, zero, suc}
 use Rattle.std.proofs.lemmas.Bool.{false_from_ne_true as not_true, ne_eqb as differs, eq-eqb as equals}
 use Rattle.std.proofs.lemmas.Str.Pattern.{rfind_char}
 use Rattle.std.specs.Prelude.{MatchOption, IfSome, ◌==◌}
@@ -21,22 +21,16 @@ last_none t zero h = refl
 last_none t (suc n) h = passes_below t n (h n (omega arith)) ∙ last_none t n (λ i l. h i (omega arith))
 
 at_or_below : (t : ℕ → Bool) (n k : ℕ) (b : Bool) → t n ≡ b → k < suc n → t k ≡ true → ((i : ℕ) → k < i → i < suc n → t i ≡ false) → (k < n → last_place t n ≡ Some k) → last_place t (suc n) ≡ Some k
-at_or_below t n k true e l h after below =
-    let none : k < n → ⊥ = λ less. (let bad : true ≡ false = sym e ∙ after n less (omega arith) in cc) in
-    let same : n ≡ k = omega (arith, none) in
-    passes_here t n e ∙ ap Some same
-at_or_below t n k false e l h after below =
-    let none : k ≡ n → ⊥ = λ q. (let bad : true ≡ false = sym h ∙ ap t q ∙ e in cc) in
-    let less : k < n = omega (arith, none) in
-    passes_below t n e ∙ below less
+at_or_below t n k true e l h after below = grind (arith, passes_here)
+at_or_below t n k false e l h after below = grind (arith, passes_below)
 
 pub last_is : (t : ℕ → Bool) (n k : ℕ) → IsLastPlace t n k → last_place t n ≡ Some k
 last_is t zero k h = absurd (omega (arith, h.within))
 last_is t (suc n) k h = at_or_below t n k (t n) refl h.within h.passes h.last (λ l. last_is t n k (record { within = l; passes = h.passes; last = λ i a b. h.last i a (omega arith) }))
 
 choice : (t : ℕ → Bool) (n k : ℕ) (b : Bool) → t n ≡ b → cond b (Some n) (last_place t n) ≡ Some k → (last_place t n ≡ Some k → IsLastPlace t n k) → IsLastPlace t (suc n) k
-choice t n k true e h below = let same : n ≡ k = cc in subst (λ j. IsLastPlace t (suc n) j) same (record { within = omega arith; passes = e; last = λ i a b. absurd (omega arith) })
-choice t n k false e h below = let r = below h in record { within = omega (arith, r.within); passes = r.passes; last = λ i a b. not_true (t i) (λ here. let none : i < n → ⊥ = λ l. (let bad : true ≡ false = sym here ∙ r.last i a l in cc) in let same : i ≡ n = omega (arith, none) in let bad : true ≡ false = sym here ∙ ap t same ∙ e in cc) }
+choice t n k true e h below = grind (arith)
+choice t n k false e h below = grind (arith, not_true)
 
 -- the converse: what is found is the last place
 pub is_last : (t : ℕ → Bool) (n k : ℕ) → last_place t n ≡ Some k → IsLastPlace t n k

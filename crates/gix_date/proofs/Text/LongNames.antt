@@ -1,14 +1,15 @@
--- Names are told by three letters and what stands after them.
-use Rattle.std.proofs.Common.{◌≡◌, ◌∙◌, ◌<◌, ℕ, suc, Bool, true, false, nat_le, List, [], ◌∷◌, length, take, drop, get_or, drop-cons, length-drop, ◌-◌, ◌≤◌, option_map, Option, Some, None, IfSome, refl, ap, sym, subst, arith}
+-- Names: those told by three letters and what stands after them, and those of tables.
+use Rattle.std.proofs.Common.{◌≡◌, ◌∙◌, ◌<◌, ℕ, suc, Bool, true, false, nat_le, List, [], ◌∷◌, length, take, drop, get_or, drop-cons, length-drop, ◌-◌, ◌≤◌, option_map, Option, Some, None, IfSome, refl, ap, sym, subst, arith, map, cond, Bor}
 use Rattle.std.specs.Prelude.{◌==◌, ◌&&◌, ◌+◌}
 use Rattle.std.specs.Char.{to_ascii_lowercase}
-use Rattle.std.specs.List.{position}
+use Rattle.std.specs.List.{find, position}
+use Rattle.std.specs.Str.{bytes_eq}
 use Rattle.std.proofs.lemmas.List.{take_all}
 use Rattle.std.proofs.lemmas.Bool.{and_left, and_right}
 use Rattle.std.proofs.lemmas.Bool.Decides.{nat_tests}
 use Rattle.std.proofs.lemmas.List.Quantifiers.{position-Some}
 use Rattle.std.specs.Int.{IsInRange}
-use Rattle.gix_date.specs.Text.Names.{is_name}
+use Rattle.gix_date.specs.Text.Names.{is_name, name_row, value_named}
 use Rattle.gix_date.specs.Text.LongNames.{begins, is_short, tells, long_month_names, month_told, month_by, long_day_names, weekday_told, weekday_by}
 
 le-three : (m n : ℕ) (b : Bool) → nat_le m n ≡ b → nat_le (suc (suc (suc m))) (suc (suc (suc n))) ≡ b
@@ -45,13 +46,13 @@ weekday-letters a b c end = λ i. position (λ name. short-tells a b c end name 
 two-tell : (word name : List ℕ) → length word < 3 → is_short word name ≡ false
 two-tell word name h = let few : nat_le 3 (length word) ≡ false = grind (arith, nat_tests) in and_left (nat_le 3 (length word)) (begins word name) few
 
-pub no-month : (word : List ℕ) → length word < 3 → month_told word ≡ None
+pub no_month : (word : List ℕ) → length word < 3 → month_told word ≡ None
 unfolding month_told
-no-month word h = λ i. option_map (λ place. place + 1) (position (λ name. two-tell word name h i) long_month_names)
+no_month word h = λ i. option_map (λ place. place + 1) (position (λ name. two-tell word name h i) long_month_names)
 
-pub no-weekday : (word : List ℕ) → length word < 3 → weekday_told word ≡ None
+pub no_weekday : (word : List ℕ) → length word < 3 → weekday_told word ≡ None
 unfolding weekday_told
-no-weekday word h = λ i. position (λ name. two-tell word name h i) long_day_names
+no_weekday word h = λ i. position (λ name. two-tell word name h i) long_day_names
 
 -- a word of three letters or more
 module _ (word : List ℕ) (u v w : ℕ) (long : 3 ≤ length word) (first : u ≡ to_ascii_lowercase (get_or word 0 0)) (second : v ≡ to_ascii_lowercase (get_or word 1 0))
@@ -70,27 +71,51 @@ module _ (word : List ℕ) (u v w : ℕ) (long : 3 ≤ length word) (first : u �
       ≡ F (to_ascii_lowercase (get_or word 0 0)) (to_ascii_lowercase (get_or word 1 0)) (to_ascii_lowercase (get_or word 2 0)) rest
   letters F = λ i. F (first i) (second i) (third i) rest
 
-  pub month-in : month_by u v w rest ≡ month_told word
-  month-in = letters month_by ∙ sym (month-letters (get_or word 0 0) (get_or word 1 0) (get_or word 2 0) rest) ∙ ap month_told whole
+  pub month_found : month_by u v w rest ≡ month_told word
+  month_found = letters month_by ∙ sym (month-letters (get_or word 0 0) (get_or word 1 0) (get_or word 2 0) rest) ∙ ap month_told whole
 
-  pub weekday-in : weekday_by u v w rest ≡ weekday_told word
-  weekday-in = letters weekday_by ∙ sym (weekday-letters (get_or word 0 0) (get_or word 1 0) (get_or word 2 0) rest) ∙ ap weekday_told whole
+  pub weekday_found : weekday_by u v w rest ≡ weekday_told word
+  weekday_found = letters weekday_by ∙ sym (weekday-letters (get_or word 0 0) (get_or word 1 0) (get_or word 2 0) rest) ∙ ap weekday_told whole
 
 -- months are counted from 1 to 12
-pub month-in-range : (word : List ℕ) (found : Option ℕ) → found ≡ month_told word → IfSome found (λ month. IsInRange 1 12 month)
+pub month_in_range : (word : List ℕ) (found : Option ℕ) → found ≡ month_told word → IfSome found (λ month. IsInRange 1 12 month)
 unfolding month_told
-month-in-range word found e =
+month_in_range word found e =
     subst (λ (o : Option ℕ). IfSome o (λ month. IsInRange 1 12 month)) (sym e) (by (position (is_short word) long_month_names) refl)
   where
     by : (o : Option ℕ) → position (is_short word) long_month_names ≡ o → IfSome (option_map (λ place. place + 1) o) (λ month. IsInRange 1 12 month)
     by None e = tt
     by (Some k) e = let at = position-Some (is_short word) long_month_names k [] e in omega (arith, at.0)
 
-pub weekday-in-range : (word : List ℕ) (found : Option ℕ) → found ≡ weekday_told word → IfSome found (λ weekday. weekday < 7)
+pub weekday_in_range : (word : List ℕ) (found : Option ℕ) → found ≡ weekday_told word → IfSome found (λ weekday. weekday < 7)
 unfolding weekday_told
-weekday-in-range word found e =
+weekday_in_range word found e =
     subst (λ (o : Option ℕ). IfSome o (λ weekday. weekday < 7)) (sym e) (by (position (is_short word) long_day_names) refl)
   where
     by : (o : Option ℕ) → position (is_short word) long_day_names ≡ o → IfSome o (λ weekday. weekday < 7)
     by None e = tt
     by (Some k) e = let at = position-Some (is_short word) long_day_names k [] e in omega (arith, at.0)
+
+-- What a table of names says, behind references or not.
+told-by : {A : Type 0} (b : Bool) (row : Bor (List ℕ) × A) (rest : Option (Bor (List ℕ) × A)) (plain : Option (List ℕ × A))
+    → option_map (λ (r : Bor (List ℕ) × A). r.1) rest ≡ option_map (λ (r : List ℕ × A). r.1) plain
+    → option_map (λ (r : Bor (List ℕ) × A). r.1) (cond b (Some row) rest) ≡ option_map (λ (r : List ℕ × A). r.1) (cond b (Some (name_row row)) plain)
+told-by true row rest plain e = refl
+told-by false row rest plain e = e
+
+seen-by : {A B : Type 0} (b : Bool) (see : A → B) (row : List ℕ × A) (rest : Option (List ℕ × B)) (plain : Option (List ℕ × A))
+    → option_map (λ (r : List ℕ × B). r.1) rest ≡ option_map see (option_map (λ (r : List ℕ × A). r.1) plain)
+    → option_map (λ (r : List ℕ × B). r.1) (cond b (Some (row.0, see row.1)) rest) ≡ option_map see (option_map (λ (r : List ℕ × A). r.1) (cond b (Some row) plain))
+seen-by true see row rest plain e = refl
+seen-by false see row rest plain e = e
+
+pub same_names : {A : Type 0} (word : List ℕ) (rows : List (Bor (List ℕ) × A))
+    → option_map (λ (row : Bor (List ℕ) × A). row.1) (find (λ (row : Bor (List ℕ) × A). bytes_eq word row.0.now) rows) ≡ value_named (map name_row rows) word
+same_names word [] = refl
+same_names word (row ∷ rows) = told-by (bytes_eq word row.0.now) row _ _ (same_names word rows)
+
+-- a table whose values are seen otherwise says the same of them
+pub seen_by : {A B : Type 0} (see : A → B) (rows : List (List ℕ × A)) (word : List ℕ)
+    → value_named (map (λ (row : List ℕ × A). (row.0, see row.1)) rows) word ≡ option_map see (value_named rows word)
+seen_by see [] word = refl
+seen_by see (row ∷ rows) word = seen-by (bytes_eq word row.0) see row _ _ (seen_by see rows word)

@@ -1,5 +1,5 @@
 -- A few digits, read one after the other.
-use Rattle.std.proofs.Common.{◌≡◌, ℕ, ◌+◌, ◌-◌, ◌*◌, ◌<◌, ◌≤◌, ◌^◌, true, false, List, [], ◌∷◌, length, get_or, take, drop, ap, sym, refl, arith, length-take-le, pos, neg_ℤ, Some, FitsSigned, w64}
+use Rattle.std.proofs.Common.{◌≡◌, ℕ, ◌+◌, ◌-◌, ◌*◌, ◌<◌, ◌≤◌, ◌^◌, true, false, List, [], ◌∷◌, length, get_or, take, drop, arith, length-take-le, pos, neg_ℤ, Some, FitsSigned, w64}
 use Rattle.std.proofs.lemmas.Bool.{and_parts as both}
 use Rattle.std.proofs.lemmas.Bool.Decides.{nat_tests}
 use Rattle.std.proofs.lemmas.Int.Digits.{digits_value_more, digits_more}
@@ -7,7 +7,7 @@ use Rattle.std.proofs.lemmas.Str.Parse.{digits_value_short}
 use Rattle.std.specs.Char.{is_ascii_digit, digit_value}
 use Rattle.std.specs.Str.{all_ascii_digits}
 use Rattle.std.specs.Prelude.{◌==◌}
-use Rattle.std.specs.Str.Parse.{digits_value, without_leading_sign, signed_digits_value, IsNumeral}
+use Rattle.std.specs.Str.Parse.{digits_value, IsNumeral}
 use Rattle.gix_date.specs.Text.Numbers.{int_value}
 use Rattle.gix_date.proofs.Text.Ints.{own, int_value_from}
 use Rattle.std.proofs.lemmas.Int.{ints}
@@ -22,10 +22,7 @@ so_far-small ds i k h short within = digits_value_short own (take i ds) k h (ome
 
 -- one digit more
 pub value-more : (ds : List ℕ) (i : ℕ) → i < length ds → is_ascii_digit (get_or ds i 0) ≡ true → digits_value 10 (take (i + 1) ds) ≡ 10 * digits_value 10 (take i ds) + (get_or ds i 0 - 48)
-value-more ds i within h =
-    let more = digits_value_more 10 ds i within in
-    let digit = digit_is (get_or ds i 0) h in
-    omega (arith, more, digit)
+value-more ds i within h = grind (arith, digits_value_more, digit_is)
 
 pub digits-more : (ds : List ℕ) (i : ℕ) → i < length ds → all_ascii_digits (take i ds) ≡ true → is_ascii_digit (get_or ds i 0) ≡ true → all_ascii_digits (take (i + 1) ds) ≡ true
 digits-more ds i within h d = own.from (take (i + 1) ds) (digits_more 10 ds i within (own.to (take i ds) h) (grind (arith, nat_tests, d)))
@@ -46,30 +43,20 @@ numeral : (ds : List ℕ) → 0 < length ds → all_ascii_digits ds ≡ true →
 numeral ds some h = (some, own.to ds h)
 
 -- digits alone
-pub bare-int : (ds : List ℕ) (n : ℕ) → 0 < length ds → all_ascii_digits ds ≡ true → n ≡ digits_value 10 ds → n < 10 ^ 18 → int_value ds ≡ Some (pos n)
-bare-int [] n some h e small = absurd (omega arith)
-bare-int (c ∷ t) n some h e small =
-    let first = (both (is_ascii_digit c) (all_ascii_digits t) h).0 in
-    let bare : without_leading_sign (c ∷ t) ≡ c ∷ t = rw (no-minus c first, no-plus c first) refl in
-    let value : signed_digits_value 10 (c ∷ t) ≡ pos n = rw (no-minus c first, no-plus c first) (ap pos (sym e)) in
-    int_value_from (c ∷ t) (pos n) (rw bare (numeral (c ∷ t) some h)) value (fits-pos n small)
+pub bare_int : (ds : List ℕ) (n : ℕ) → 0 < length ds → all_ascii_digits ds ≡ true → n ≡ digits_value 10 ds → n < 10 ^ 18 → int_value ds ≡ Some (pos n)
+bare_int [] n some h e small = absurd (omega arith)
+bare_int (c ∷ t) n some h e small = grind (arith, both, no-minus, no-plus, int_value_from, numeral, fits-pos)
 
 -- a minus and digits
 pub minus-int : (text : List ℕ) (n : ℕ) → get_or text 0 0 ≡ 45 → 0 < length (drop 1 text) → all_ascii_digits (drop 1 text) ≡ true → n ≡ digits_value 10 (drop 1 text) → n < 10 ^ 18 → int_value text ≡ Some (neg_ℤ (pos n))
 minus-int [] n m some h e small = absurd (omega arith)
-minus-int (c ∷ ds) n m some h e small =
-    let is : (c == 45) ≡ true = rw m refl in
-    let bare : without_leading_sign (c ∷ ds) ≡ ds = rw is refl in
-    let value : signed_digits_value 10 (c ∷ ds) ≡ neg_ℤ (pos n) = rw is (ap (λ (k : ℕ). neg_ℤ (pos k)) (sym e)) in
-    int_value_from (c ∷ ds) (neg_ℤ (pos n)) (rw bare (numeral ds some h)) value (fits-neg n small)
+minus-int (c ∷ ds) n m some h e small = grind (arith, int_value_from, numeral, fits-neg)
 
 all-of : (ds : List ℕ) (n : ℕ) → n ≡ length ds → take n ds ≡ ds
 all-of ds n e = rw e (take-length ds)
 
 -- the same, as a pattern of a slice gives its rest
-pub minus-rest : (text : List ℕ) (n : ℕ) → get_or text 0 0 ≡ 45 → 0 < length (take (length text - 1) (drop 1 text)) → all_ascii_digits (take (length text - 1) (drop 1 text)) ≡ true → n ≡ digits_value 10 (take (length text - 1) (drop 1 text)) → n < 10 ^ 18
+pub minus_rest : (text : List ℕ) (n : ℕ) → get_or text 0 0 ≡ 45 → 0 < length (take (length text - 1) (drop 1 text)) → all_ascii_digits (take (length text - 1) (drop 1 text)) ≡ true → n ≡ digits_value 10 (take (length text - 1) (drop 1 text)) → n < 10 ^ 18
     → int_value text ≡ Some (neg_ℤ (pos n))
-minus-rest [] n m some h e small = absurd (omega arith)
-minus-rest (c ∷ ds) n m some h e small =
-    let rest : take (length (c ∷ ds) - 1) ds ≡ ds = all-of ds (length (c ∷ ds) - 1) (omega arith) in
-    minus-int (c ∷ ds) n m (rw rest at some) (rw rest at h) (rw rest at e) small
+minus_rest [] n m some h e small = absurd (omega arith)
+minus_rest (c ∷ ds) n m some h e small = grind (arith, all-of, minus-int)

@@ -1,5 +1,6 @@
 -- A text that begins and ends with a visible character has no white space round it.
-use Rattle.std.proofs.Common.{◌≡◌, ◌∙◌, ℕ, ◌+◌, ◌-◌, ◌<◌, Bool, true, false, cond, List, [], ◌∷◌, ◌++◌, length, get_or, take, refl, ap, sym, arith, encode_utf8_all, IsUtf8}
+use Rattle.std.proofs.lemmas.Grind.{common_steps}
+use Rattle.std.proofs.Common.{◌≡◌, ◌∙◌, ℕ, ◌-◌, ◌<◌, Bool, true, false, cond, List, [], ◌∷◌, ◌++◌, length, get_or, take, refl, ap, sym, arith, encode_utf8_all, IsUtf8}
 use Rattle.std.proofs.lemmas.Bool.Decides.{nat_tests}
 use Rattle.std.proofs.lemmas.List.Prefix.{end_from_reads}
 use Rattle.std.proofs.lemmas.Str.{chars_past_char, chars-append, chars-IsAscii, encodes-chars, encode_ascii, IsUtf8-take, IsCharBoundary-before_ascii}
@@ -32,9 +33,7 @@ drops-none (x ∷ cs) c h =
     ∙ kept (is_whitespace x) (length (cs ++ c ∷ []) == 0) (x ∷ (cs ++ c ∷ [])) (some-left cs c)
 
 by-last : (t : List ℕ) → 0 < length t → t ≡ take (length t - 1) t ++ get_or t (length t - 1) 0 ∷ []
-by-last t some =
-    let last = get_or t (length t - 1) 0 in
-    end_from_reads 0 t (last ∷ []) (omega arith) (λ i l. let first : i ≡ 0 = omega arith in ap (λ j. get_or t (length t - 1 + j) 0) first ∙ ap (λ j. get_or t j 0) (omega arith) ∙ ap (λ j. get_or (last ∷ []) j 0) (sym first))
+by-last t some = grind (arith, nat_tests, common_steps, end_from_reads)
 
 -- the characters that stay at the end
 ends : (t : List ℕ) → IsUtf8 t → 0 < length t → is_ascii_graphic (get_or t (length t - 1) 0) ≡ true → drop_trailing_whitespace (chars t) ≡ chars t
@@ -49,10 +48,10 @@ ends t u some h =
     ∙ ap (λ (cs : List ℕ). chars (take n t) ++ cs) (chars-IsAscii (last ∷ []) one) in
     ap drop_trailing_whitespace split ∙ drops-none (chars (take n t)) last (graphic-stays last h) ∙ sym split
 
-pub trim-ends : (t : List ℕ) → IsUtf8 t → 0 < length t → is_ascii_graphic (get_or t 0 0) ≡ true → is_ascii_graphic (get_or t (length t - 1) 0) ≡ true → trim t ≡ t
+pub trim_ends : (t : List ℕ) → IsUtf8 t → 0 < length t → is_ascii_graphic (get_or t 0 0) ≡ true → is_ascii_graphic (get_or t (length t - 1) 0) ≡ true → trim t ≡ t
 unfolding trim_start trim_end
-trim-ends [] u some first last = absurd (omega arith)
-trim-ends (c ∷ rest) u some first last =
+trim_ends [] u some first last = absurd (omega arith)
+trim_ends (c ∷ rest) u some first last =
     let t = c ∷ rest in
     let cs : chars t ≡ c ∷ chars rest = chars_past_char t rest c u (ap (λ (bs : List ℕ). bs ++ rest) (sym (encode_ascii c (graphic-ascii c first)))) in
     let skipped : skip_leading_whitespace (chars t) ≡ chars t = ap skip_leading_whitespace cs ∙ skips-none c (chars rest) (graphic-stays c first) ∙ sym cs in

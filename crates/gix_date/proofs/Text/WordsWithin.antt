@@ -30,8 +30,7 @@ pub onto-append : (c : ℕ) (xs ys : List (List ℕ)) (part : List ℕ) (parts :
 onto-append c xs ys part parts e = rw e refl
 
 cut-by : (p : ℕ → Bool) (c : ℕ) (x : List ℕ) (g : ℕ) (y : List ℕ) (b : Bool) → p c ≡ b → slice_split p (x ++ (g ∷ y)) ≡ slice_split p x ++ slice_split p y → slice_split p (c ∷ (x ++ (g ∷ y))) ≡ slice_split p (c ∷ x) ++ slice_split p y
-cut-by p c x g y true e h =
-    slice_split-cons_yes p c (x ++ (g ∷ y)) e ∙ ap (λ (ps : List (List ℕ)). [] ∷ ps) h ∙ sym (ap (λ (ps : List (List ℕ)). ps ++ slice_split p y) (slice_split-cons_yes p c x e))
+cut-by p c x g y true e h = grind (arith, slice_split-cons_yes)
 cut-by p c x g y false e h =
     let parts = parts-of p x in
     slice_split-cons_no p c (x ++ (g ∷ y)) e
@@ -55,7 +54,7 @@ skip-gaps (g ∷ gs) y h = ap (filter is_nonempty) (slice_split-cons_yes is_gap 
 
 pub one-gap : (x : List ℕ) (g : ℕ) (y : List ℕ) → is_gap g ≡ true → relative_words (x ++ (g ∷ y)) ≡ relative_words x ++ relative_words y
 unfolding relative_words
-one-gap x g y h = ap (filter is_nonempty) (cut-append is_gap x g y h) ∙ filter-append is_nonempty (slice_split is_gap x) (slice_split is_gap y)
+one-gap x g y h = grind (arith, cut-append, filter-append)
 
 gap-between : (x e y : List ℕ) → AreGaps e → 0 < length e → relative_words (x ++ (e ++ y)) ≡ relative_words x ++ relative_words y
 gap-between x [] y h long = absurd (omega arith)

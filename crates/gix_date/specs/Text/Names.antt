@@ -1,6 +1,8 @@
 -- Names, and those of days, months and numbers.
-use Rattle.std.specs.Prelude.{ℕ, ◌-◌, Bool, get_or, List, [], ◌∷◌, codes, if◌then◌else◌, Option, Some, None}
-use Rattle.std.specs.Str.{str_eq_ignore_ascii_case}
+use Rattle.std.specs.Prelude.{ℕ, ◌-◌, Bool, get_or, List, [], ◌∷◌, codes, if◌then◌else◌, Option, Some, None, option_map}
+use Rattle.std.specs.Borrow.{Bor}
+use Rattle.std.specs.List.{find}
+use Rattle.std.specs.Str.{bytes_eq, str_eq_ignore_ascii_case}
 
 -- a word is this name, in any letter case
 abbrev pub is_name : List ℕ → List ℕ → Bool
@@ -10,6 +12,14 @@ is_name word name = str_eq_ignore_ascii_case word name
 abbrev pub named_in : {A : Type 0} → List (List ℕ × A) → List ℕ → Option A
 named_in [] word = None
 named_in ((name, said) ∷ rows) word = if is_name word name then Some said else named_in rows word
+
+-- what stands beside the first name that a word is, in the same letter case
+abbrev pub value_named : {A : Type 0} → List (List ℕ × A) → List ℕ → Option A
+value_named {A} rows word = option_map (λ (row : List ℕ × A). row.1) (find (λ (row : List ℕ × A). bytes_eq word row.0) rows)
+
+-- a row of the code's table
+abbrev pub name_row : {A : Type 0} → Bor (List ℕ) × A → List ℕ × A
+name_row row = (row.0.now, row.1)
 
 abbrev pub day_names : List (List ℕ)
 day_names = codes "Mon" ∷ codes "Tue" ∷ codes "Wed" ∷ codes "Thu" ∷ codes "Fri" ∷ codes "Sat" ∷ codes "Sun" ∷ []

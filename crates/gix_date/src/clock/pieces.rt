@@ -23,6 +23,7 @@ const PAIRS: &str =
 
 /// The two digits of a number below 100. They are copied by value, here and below: so the compiler keeps them in
 /// registers, and copies them to the text at once.
+#[tactic(auto, using(crate::proofs::Printing::Pairs::pair_of_digits))]
 #[inline(always)]
 fn two_digits(n: u8) -> [u8; 2]
     requires { n < 100 }
@@ -45,6 +46,7 @@ pub(crate) fn letters(name: &str) -> [u8; 3]
 
 /// Appends bytes of ASCII.
 #[inline(always)]
+#[tactic(auto, using(crate::proofs::Text::AsciiCuts::ascii_is_utf8))]
 pub(crate) fn push_ascii<const CAP: usize>(text: &mut ArrayString<CAP>, bytes: &[u8])
     requires ascii { IsAscii bytes.now }
     requires room { array_string_len text.old + length bytes.now ≤ CAP }
@@ -124,6 +126,7 @@ pub fn push_year<const CAP: usize>(text: &mut ArrayString<CAP>, t: Clock)
 }
 
 /// Appends the day of the month, with no zero before it.
+#[tactic(auto, using(crate::proofs::Printing::ShownTexts::day_of_one, crate::proofs::Printing::ShownTexts::day_of_two))]
 #[inline(always)]
 pub fn push_day<const CAP: usize>(text: &mut ArrayString<CAP>, t: Clock)
     requires { array_string_len text.old + 2 ≤ CAP }

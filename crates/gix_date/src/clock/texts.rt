@@ -143,6 +143,7 @@ pub fn push_bare_default<const CAP: usize>(text: &mut ArrayString<CAP>, t: Clock
 }
 
 /// Appends `Www Mmm D hh:mm:ss YYYY +hhmm`.
+#[tactic(auto, using(std::proofs::lemmas::Int::ints, crate::proofs::Printing::Appended::joined_so, crate::proofs::Printing::Appended::appended, crate::proofs::Printing::Appended::dates_joined))]
 #[inline(always)]
 pub fn push_default<const CAP: usize>(text: &mut ArrayString<CAP>, t: Clock)
     requires { array_string_len text.old + 30 ≤ CAP }

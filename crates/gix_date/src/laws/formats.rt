@@ -23,12 +23,14 @@ pub fn read_back_wide(time: Time)
 
 /// The header text of a time whose offset is quarters of an hour up to 14:45 is parsed back to it. The decimal text of
 /// seconds from 100000000 on is parsed back to these seconds with offset 0. Both hold at every moment and without one.
+#[tactic(auto, using(crate::proofs::Printing::RawBack::raw_back, crate::proofs::Printing::RawBack::seconds_back))]
 pub fn raw_read_back(time: Time)
     ensures header { HeaderRoundTrips Quarter time }
     ensures seconds { SecondsRoundTrip Quarter time.seconds }
 {}
 
 /// [`raw_read_back`] for `parse_with`, and header texts whose offset is whole minutes up to 23:59.
+#[tactic(auto, using(crate::proofs::Printing::RawBack::wide_back, crate::proofs::Printing::RawBack::seconds_back))]
 pub fn raw_read_back_wide(time: Time)
     ensures header { HeaderRoundTrips WholeMinutes time }
     ensures seconds { SecondsRoundTrip WholeMinutes time.seconds }

@@ -215,6 +215,7 @@ fn read_unzoned<'a>(time: Time, without_offset: WithoutOffset) -> Reading<'a>
 }
 
 /// What the first answer says of a text that is neither pairs nor in one of Git's own forms.
+#[tactic(auto, using(crate::proofs::Text::AsciiCuts::empty_end))]
 fn read_date<'a>(
     input: &'a str,
     answer: Option<Answer<'a>>,
@@ -306,7 +307,7 @@ fn first_day(input: &str) -> Option<u8>
 }
 
 /// The day of the week, from 0 for Monday, that three letters name, in any letter case.
-#[tactic(auto, unfolding(crate::specs::Careful::Dates::day_named))]
+#[tactic(auto, using(crate::proofs::Fields::ThreeLetters::day_is_named), unfolding(crate::specs::Careful::Dates::day_named))]
 fn day_named(a: u8, b: u8, c: u8) -> Option<u8>
     ensures { result ≡ day_named (a ∷ b ∷ c ∷ []) }
 {
@@ -347,6 +348,7 @@ fn is_number(input: &str, raw: RawOffsets) -> bool
 }
 
 /// The time in UTC of a date that is one of the moment's zone.
+#[tactic(auto, using(crate::proofs::Careful::Unzoned::unzoned_has))]
 fn local_date(input: &str, without_offset: WithoutOffset) -> Option<Time>
     ensures date { result ≡ local_date without_offset input.now }
     ensures instant { IfSome result (λ t. is_instant t.seconds ≡ true) }

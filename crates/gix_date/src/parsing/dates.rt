@@ -180,6 +180,7 @@ fn usual_day(input: &str) -> Option<Time>
 
 /// The answer of the first family that holds the text, by its shape. Not inlined, so that a usual date does not pay for
 /// the frames of all families.
+#[tactic(auto, using(crate::proofs::Families::Shapes::is_dispatched))]
 #[inline(never)]
 fn any_answer(input: &str, raw: RawOffsets) -> Option<Answer<'_>>
     ensures first { option_map answer_of result ≡ first_family_by (allows raw) input.now }
@@ -317,7 +318,7 @@ fn date_conversion(alloc: Global, input: &str) -> Error
 }
 
 /// The time of an at text. Its usual forms come first: a usual raw text, and digits alone.
-#[tactic(auto, unfolding(crate::specs::Families::Epoch::at_time))]
+#[tactic(auto, using(std::proofs::lemmas::Int::ints, crate::proofs::Families::Shapes::at_int), unfolding(crate::specs::Families::Epoch::at_time))]
 fn parse_at(input: &str, raw: RawOffsets) -> Option<Time>
     ensures time { result ≡ at_time (allows raw) input.now }
     ensures offset_fits { IfSome result (λ t. IsOffsetSeconds t.offset) }

@@ -22,6 +22,7 @@ const EPOCH_BYTES: usize = 9;
 
 /// The time of a usual header: up to 18 bytes of digits, perhaps after a minus, one space, and an offset of four digits.
 /// It is read in one pass, without a search for words.
+#[tactic(auto, using(std::proofs::lemmas::Int::ints, crate::proofs::Fast::FastHeaders::plain_time, crate::proofs::Fields::FieldsTaken::time_at))]
 pub(crate) fn fast_header(input: &str) -> Option<Time>
     ensures { IfSome result (λ t. header_time input.now ≡ Some t) }
 {
@@ -77,6 +78,7 @@ fn ten_digit_fields(bytes: &[u8]) -> Option<(SecondsSinceUnixEpoch, OffsetFields
 }
 
 /// The numbers of the eight pairs of 16 bytes, if all but the sixth pair are digits, and that one is none.
+#[tactic(auto, using(crate::proofs::Fast::Pairs::other_bits, std::proofs::lemmas::Bool::Decides::nat_tests, crate::proofs::Fast::TenDigits::pair_but_sixth))]
 #[inline(always)]
 fn pairs_but_one(bytes: &[u8]) -> Option<[u16; 8]>
     requires { length bytes.now ≡ TEN_DIGIT_BYTES }

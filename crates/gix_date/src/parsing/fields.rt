@@ -10,7 +10,7 @@ use crate::civil::{ClockFields, DateFields};
 use crate::parsing::numbers::parse_two_digits;
 
 /// The text after this character, if it is the first.
-#[tactic(auto, unfolding(crate::specs::Text::Front::skip_char))]
+#[tactic(auto, using(crate::proofs::Text::AsciiCuts::first_end), unfolding(crate::specs::Text::Front::skip_char))]
 #[inline(always)]
 pub(crate) fn skip_char(mark: char, text: &str) -> Option<&str>
     requires { mark < 128 }
@@ -60,7 +60,7 @@ pub(crate) fn read_marked_date(mark: char, text: &str) -> Option<(DateFields, &s
 }
 
 /// `HH:MM:SS` at the front, matched at once.
-#[tactic(auto, unfolding(crate::specs::Computing::computing, crate::specs::Fields::DateFields::read_colon_clock))]
+#[tactic(auto, using(crate::proofs::Text::AsciiCuts::cut_pair), unfolding(crate::specs::Computing::computing, crate::specs::Fields::DateFields::read_colon_clock))]
 #[inline(always)]
 pub(crate) fn read_colon_clock(text: &str) -> Option<(ClockFields, &str)>
     ensures value { read_view result ≡ read_colon_clock text.now }

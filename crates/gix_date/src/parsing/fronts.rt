@@ -219,7 +219,7 @@ fn skip_marked(mark: char, text: &str) -> Option<&str>
 }
 
 /// Digits.
-#[tactic(auto, unfolding(crate::specs::Careful::Fronts::skip_number))]
+#[tactic(auto, using(crate::proofs::Text::AsciiCuts::first_end, crate::proofs::Text::AsciiCuts::digit_is_ascii), unfolding(crate::specs::Careful::Fronts::skip_number))]
 fn skip_number(text: &str) -> Option<&str>
     ensures { option_copied result ≡ skip_number text.now }
 {

@@ -43,6 +43,7 @@ pub enum HeaderKind {
 
 /// What a text is as a commit header: canonical, or else what [`parse_header`] reads it as. It reads the text once, and
 /// takes no memory. The original has no such call.
+#[tactic(auto, using(crate::proofs::Header::HeaderLaws::canonical_written, crate::proofs::Header::HeaderLaws::no_time_not_canonical))]
 pub fn header_kind(input: &str) -> HeaderKind
     ensures { result ≡ header_kind input.now }
 {

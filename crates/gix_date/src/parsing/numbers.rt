@@ -22,6 +22,7 @@ const FOUR_PAIRS: usize = 8;
 pub(crate) const TEN_AND_ONE: u16 = 10 * 256 + 1;
 
 /// The value of an optional sign and digits, where an `i64` can hold it. Nearly all numbers are short.
+#[tactic(auto, using(crate::proofs::Text::Ints::int_value_lem))]
 pub(crate) fn parse_int(word: &str) -> Option<i64>
     ensures { result ≡ int_value word.now }
 {
@@ -32,6 +33,7 @@ pub(crate) fn parse_int(word: &str) -> Option<i64>
 }
 
 /// The value of a short text of digits, with a minus or no sign.
+#[tactic(auto, using(crate::proofs::Text::ShortDigits::minus_rest, std::proofs::lemmas::Int::ints, crate::proofs::Text::ShortDigits::bare_int))]
 #[inline(always)]
 pub(crate) fn fast_int(text: &[u8]) -> Option<i64>
     ensures { IfSome result (λ n. int_value text.now ≡ Some n) }
@@ -86,6 +88,7 @@ fn parse_ten_digits(digits: &[u8]) -> Option<u64>
 }
 
 /// The numbers of the first four pairs of digits.
+#[tactic(auto, using(crate::proofs::Fast::Pairs::other_bits, std::proofs::lemmas::Bool::Decides::nat_tests, crate::proofs::Fast::Pairs::four_at))]
 #[inline(always)]
 fn four_pairs(bytes: &[u8]) -> Option<[u16; 4]>
     requires { FOUR_PAIRS ≤ length bytes.now }
@@ -108,6 +111,7 @@ pub(crate) fn are_digits(bytes: &[u8]) -> bool
 }
 
 /// The digits that a word begins with.
+#[tactic(auto, using(crate::proofs::Text::AsciiCuts::digits_end))]
 pub(crate) fn leading_digits(word: &str) -> &str
     ensures { result.now ≡ take_while is_ascii_digit word.now }
 {
@@ -115,6 +119,7 @@ pub(crate) fn leading_digits(word: &str) -> &str
 }
 
 /// What stands after the digits that a text begins with.
+#[tactic(auto, using(crate::proofs::Text::AsciiCuts::digits_end))]
 pub(crate) fn skip_digits(text: &str) -> &str
     ensures { result.now ≡ drop (prefix_len is_ascii_digit text.now) text.now }
 {
@@ -141,7 +146,7 @@ pub(crate) fn parse_two_digits(tens: u8, ones: u8) -> Option<u8>
 }
 
 /// The number that two digits at the front write.
-#[tactic(auto, unfolding(crate::specs::Text::Numbers::read_two_digits))]
+#[tactic(auto, using(crate::proofs::Text::AsciiCuts::cut_pair), unfolding(crate::specs::Text::Numbers::read_two_digits))]
 #[inline(always)]
 pub(crate) fn read_two_digits(text: &str) -> Option<(u8, &str)>
     ensures value { read_view result ≡ read_two_digits text.now }
@@ -157,7 +162,7 @@ pub(crate) fn read_two_digits(text: &str) -> Option<(u8, &str)>
 }
 
 /// The number that two digits at the front write, or else one.
-#[tactic(auto, unfolding(crate::specs::Text::Numbers::read_field, crate::specs::Text::Numbers::read_digit))]
+#[tactic(auto, using(crate::proofs::Text::AsciiCuts::first_end, crate::proofs::Text::AsciiCuts::digit_is_ascii), unfolding(crate::specs::Text::Numbers::read_field, crate::specs::Text::Numbers::read_digit))]
 #[inline(always)]
 pub(crate) fn read_field(text: &str) -> Option<(u8, &str)>
     ensures value { read_view result ≡ read_field text.now }

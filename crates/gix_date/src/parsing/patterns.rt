@@ -56,6 +56,7 @@ pub(crate) fn parse_unzoned_day(text: &str) -> Option<Time>
 }
 
 /// What a day alone answers. The calendar check runs only if there is no instant.
+#[tactic(auto, using(jiff_core::proofs::SignedLemmas::signed_arith, crate::proofs::Text::Ints::held, crate::proofs::Fields::AfterDay::day_with_instant))]
 #[inline(always)]
 fn real_day_answer(date: DateFields) -> Option<Answer<'static>>
     requires { DateFits date }

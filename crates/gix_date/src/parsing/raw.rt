@@ -68,6 +68,7 @@ pub(crate) fn parse_raw(input: &str, raw: RawOffsets) -> Option<Time>
 
 /// The time of a raw text that is a usual header ([`fast_fields`]). `None` means only that the text has another form, or
 /// an offset that the rule does not allow. No shape and no other family is tried.
+#[tactic(auto, using(std::proofs::lemmas::Int::ints, crate::proofs::Fast::FastHeaders::plain_raw, crate::proofs::Fields::FieldsTaken::time_at))]
 #[inline(always)]
 pub(crate) fn fast_raw(input: &str, raw: RawOffsets) -> Option<Time>
     ensures time { IfSome result (λ t. raw_time_by (allows raw) input.now ≡ Some t) }

@@ -21,6 +21,7 @@ pub(crate) fn first_words(text: &str) -> Option<(&str, Option<&str>)>
 }
 
 /// A text without the white space round it, which nearly all texts are.
+#[tactic(auto, using(crate::proofs::Text::Trimmed::trim_ends))]
 #[inline(always)]
 pub(crate) fn trimmed(text: &str) -> &str
     ensures { result.now ≡ trim text.now }

@@ -5,7 +5,7 @@
 //! an hour up to 14:45; [`parse_with`](crate::parse_with) reads those of whole minutes up to 23:59. The day
 //! `9999-12-31`, which [`SHORT`] prints of 253402207200 at +0200, is refused by `DateConversion`: its midnight in UTC
 //! is no instant.
-ghost use Rattle.std.specs.Prelude.{◌≡◌, ◌↔◌, ◌⊎◌, Some, Err, option_map, IsTrue, IsSome, IfSome};
+ghost use Rattle.std.specs.Prelude.{◌≡◌, ◌↔◌, ◌⊎◌, Some, Err, map, option_map, IsTrue, IsSome, IfSome};
 ghost use Rattle.jiff.specs.Words.{plain_zoned};
 ghost use Rattle.jiff.specs.ZonedText.{zoned_parts};
 ghost use Rattle.jiff_core.specs.Date.{weekday_of};
@@ -15,9 +15,11 @@ ghost use Rattle.gix_date.specs.Header.Text.{header_text};
 ghost use Rattle.gix_date.specs.Text.Numbers.{decimal_text};
 ghost use Rattle.gix_date.specs.Printing.Formats.{IsTextOf, IsPatternText, Prints, PrintsOrSeconds, PrintsPattern, PrintsPatternOrSeconds, PrintsHeader, PrintsSeconds, PrintsAt};
 ghost use Rattle.gix_date.specs.Printing.FormatBuf.{HasBufText, HasNamedText};
+ghost use Rattle.gix_date.specs.Printing.NamedFormats.{format_named, format_numbered, format_row, named_formats, printed_by};
 ghost use Rattle.gix_date.specs.declared.error.Error.TheVariants as errors;
 
 use crate::error::Error;
+use crate::names::value_named;
 pub use crate::time::named::FormatBuf;
 use crate::time::named::{
     DEFAULT_PATTERN, GIT_RFC2822_PATTERN, GITOXIDE_PATTERN, ISO8601_PATTERN,
@@ -108,6 +110,40 @@ pub const GITOXIDE: CustomFormat = CustomFormat {
 pub const DEFAULT: CustomFormat = CustomFormat {
     pattern: DEFAULT_PATTERN,
 };
+
+static NAMED_FORMATS: [(&str, Format); 9] = [
+    ("UNIX", UNIX),
+    ("RAW", RAW),
+    ("SHORT", Format::Custom(SHORT)),
+    ("RFC2822", Format::Custom(RFC2822)),
+    ("GIT_RFC2822", Format::Custom(GIT_RFC2822)),
+    ("ISO8601", Format::Custom(ISO8601)),
+    ("ISO8601_STRICT", Format::Custom(ISO8601_STRICT)),
+    ("GITOXIDE", Format::Custom(GITOXIDE)),
+    ("DEFAULT", Format::Custom(DEFAULT)),
+];
+
+/// The named formats, each beside its name, in the order of their numbers: that of [`UNIX`] is 0.
+pub fn named_formats() -> &'static [(&'static str, Format)]
+    ensures { map format_row result.now ≡ named_formats }
+{
+    &NAMED_FORMATS
+}
+
+/// The named format of this name, as `ISO8601`: letter case matters. `None` where none is called so.
+pub fn format_named(name: &str) -> Option<Format>
+    ensures { option_map printed_by result ≡ format_named name.now }
+{
+    value_named(named_formats(), name)
+}
+
+/// The named format of this number. `None` where none has it.
+pub fn format_numbered(number: usize) -> Option<Format>
+    ensures { option_map printed_by result ≡ format_numbered number }
+{
+    let row = *named_formats().get(number)?;
+    Some(row.1)
+}
 
 /// Maps a fault of `jiff`'s printer.
 fn printing_fault(error: jiff::Error) -> Error

@@ -146,6 +146,7 @@ fn push_names(text: &mut FormatBuf, pattern: &str, t: Clock) -> Option<()>
 }
 
 /// Whether a pattern is this one, of 16 to 32 bytes: its first 16 bytes and its last 16, which cover it, are compared.
+#[tactic(auto, using(std::proofs::lemmas::Bool::and_parts, crate::proofs::Fast::Masks::ends_tell))]
 #[inline(always)]
 fn is_pattern(pattern: &str, name: &str) -> bool
     requires { (BLOCK ≤ length name.now) × (length name.now ≤ 2 * BLOCK) }
@@ -160,6 +161,7 @@ fn is_pattern(pattern: &str, name: &str) -> bool
 }
 
 /// Whether the first 16 bytes are the same.
+#[tactic(auto, using(crate::proofs::Fast::Masks::equal_bits, std::proofs::lemmas::Bool::Decides::nat_tests, crate::proofs::Fast::Masks::alike_from, crate::proofs::Fast::Masks::alike_to))]
 #[inline(always)]
 fn begin_alike(a: &[u8], b: &[u8]) -> bool
     requires { (BLOCK ≤ length a.now) × (BLOCK ≤ length b.now) }

@@ -43,6 +43,7 @@ impl Time {
 
     /// How many bytes [`Time::write_to`] writes, at most 26: the digits of the seconds, 1 more where they are negative,
     /// and 6. Where the offset is too wide to be written, the number is the same as for an offset that is not.
+    #[tactic(auto, using(crate::proofs::Text::Decimals::length_decimal_i64, crate::proofs::Header::HeaderTexts::length_header_text, std::proofs::lemmas::Grind::common_steps))]
     pub const fn size(&self) -> usize
         ensures digits { result ≡ length (decimal_text self.now.seconds) + 6 }
         ensures text { IfSome (header_text self.now) (λ text. result ≡ length text) }

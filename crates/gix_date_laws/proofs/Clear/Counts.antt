@@ -21,7 +21,7 @@ use Rattle.gix_date.proofs.Text.Ints.{each_of, fits_from}
 use Rattle.gix_date.proofs.Relative.QuietWords.{says_nothing, like-any, like-ago, like-name, like-named, like-singular, lower-same, named-any, names_of, one-run-word}
 use Rattle.gix_date.proofs.Relative.QuietDates.{quiet-digits, digits-run as digit-letters}
 use Rattle.gix_date.specs.Careful.Grammar.{IsPlainCount, number_words}
-use Rattle.gix_date_laws.proofs.Numbers.Grammars.{bare-int}
+use Rattle.gix_date_laws.proofs.Numbers.Grammars.{bare_int}
 use Rattle.gix_date_laws.proofs.Letters.LetterCase.{count-low, digits-low}
 
 pub some-of : {A : Type 0} (o : Option A) → is_some o ≡ true → (x : A) × (o ≡ Some x)
@@ -66,7 +66,7 @@ pub count-plain : (w : List ℕ) (n : ℤ) → IsPlainCount w n → Counts w n
 unfolding count_of named_count
 count-plain w n (inl h) =
     let d : list_all is_ascii_digit w ≡ true = sym (all-digits w) ∙ h.1.1 in
-    let e : count_of w ≡ Some n = ap (λ b. cond b (int_value w) (named_count w)) d ∙ bare-int w h.0 n h.1 h.2 h.3 in
+    let e : count_of w ≡ Some n = ap (λ b. cond b (int_value w) (named_count w)) d ∙ bare_int w h.0 n h.1 h.2 h.3 in
     plain-by w n e (digits-no-name w (codes "last") d refl)
 count-plain w n (inr e) =
     let d : list_all is_ascii_digit w ≡ false = not-true (list_all is_ascii_digit w) (λ d. let bad : None ≡ Some n = sym (digits-no-number w d) ∙ e in cc) in

@@ -22,7 +22,7 @@ use Rattle.gix_date.proofs.Relative.RelativeScans.{scan, verdict_of}
 use Rattle.gix_date.proofs.Relative.RolePlaces.{meant}
 use Rattle.gix_date.proofs.Text.WordsWithin.{AreGaps, none-of-empty as no-words, skip-gaps, one-gap}
 use Rattle.gix_date.specs.Careful.Grammar.{AreSeparators, IsWordGap, Piece, AreSeparated, joined_pieces, words_of, IsCountAndUnit, GoesOn, ArePairsAgo, IsCarefulOf}
-use Rattle.gix_date_laws.proofs.Shared.Agreement.{comes-first}
+use Rattle.gix_date_laws.proofs.Shared.Agreement.{comes_first}
 use Rattle.gix_date_laws.proofs.Clear.Counts.{count-plain, count-word, and-counts, and-no-word}
 use Rattle.gix_date_laws.proofs.Clear.NoGit.{no-git}
 use Rattle.gix_date_laws.proofs.Clear.Pieces.{no-letter, no-letter-gap}
@@ -111,5 +111,5 @@ answers-pairs rule text u ps h =
     let date = careful-date text u ps h in
     let are : ArePairsAgo ps (relative_words text) = subst (λ (ws : List (List ℕ)). ArePairsAgo ps ws) (sym (text-words text ps h)) h.words in
     let none = none-unless (git_time text) (λ t e. no-git text u ps are t e) in
-    (comes-first rule text u).relative (ap (λ (t : Option Time). option_map Absolute t) none) (ap (λ (d : Option RelativeDate). is_some (option_map Relative d)) date)
+    (comes_first rule text u).relative (ap (λ (t : Option Time). option_map Absolute t) none) (ap (λ (d : Option RelativeDate). is_some (option_map Relative d)) date)
     ∙ ap (λ (d : Option RelativeDate). option_map Relative d) date

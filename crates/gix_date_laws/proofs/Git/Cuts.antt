@@ -18,7 +18,7 @@ use Rattle.gix_date.specs.Fields.Offsets.{OffsetSign as Sign}
 use Rattle.gix_date.proofs.Text.AsciiCuts.{ascii-by, all-append}
 use Rattle.gix_date.proofs.Git.ClockCuts.{z_none, space_none, space_found, sign_found}
 use Rattle.gix_date.proofs.Text.LastPlaces.{last_is, last_none}
-use Rattle.gix_date.proofs.Text.Trimmed.{trim-ends, graphic-ascii}
+use Rattle.gix_date.proofs.Text.Trimmed.{trim_ends, graphic-ascii}
 
 abbrev pub is_clock_byte : ℕ → Bool
 is_clock_byte c = is_ascii_digit c || c == colon
@@ -86,7 +86,7 @@ offset-trimmed s rest h some bytes =
     let k = length rest - 1 in
     let place : length (s ∷ rest) - 1 ≡ suc k = omega arith in
     let last : get_or (s ∷ rest) (length (s ∷ rest) - 1) 0 ≡ get_or rest k 0 = ap (λ j. get_or (s ∷ rest) j 0) place in
-    trim-ends (s ∷ rest) (IsUtf8-from_ascii (s ∷ rest) ascii) (omega arith) (sign-graphic s h)
+    trim_ends (s ∷ rest) (IsUtf8-from_ascii (s ∷ rest) ascii) (omega arith) (sign-graphic s h)
     (ap is_ascii_graphic last ∙ byte-graphic (get_or rest k 0) (all-get is_clock_byte rest bytes k (omega arith)))
 
 -- after the space is none

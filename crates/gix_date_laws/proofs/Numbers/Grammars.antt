@@ -8,9 +8,9 @@ use Rattle.gix_date.specs.Text.Numbers.{int_value, read_two_digits}
 use Rattle.gix_date.proofs.Text.Ints.{own, int_value_from}
 use Rattle.gix_date.proofs.Families.Apart.{digit-no-minus as not-minus, digit-no-plus as not-plus}
 
-pub bare-int : (digits : List ℕ) (number : ℕ) (n : ℤ) → AreDigits digits number → n ≡ pos number → FitsSigned w64 n → int_value digits ≡ Some n
-bare-int [] number n a v f = absurd (omega (arith, a.0))
-bare-int (c ∷ t) number n a v f = grind (arith, both, not-minus, not-plus, int_value_from, own)
+pub bare_int : (digits : List ℕ) (number : ℕ) (n : ℤ) → AreDigits digits number → n ≡ pos number → FitsSigned w64 n → int_value digits ≡ Some n
+bare_int [] number n a v f = absurd (omega (arith, a.0))
+bare_int (c ∷ t) number n a v f = grind (arith, both, not-minus, not-plus, int_value_from, own)
 
 pub sign-of : (mark : ℕ) (sign : OffsetSign) (t : List ℕ) → IsSign mark sign → read_sign (mark ∷ t) ≡ Some (sign, t)
 unfolding read_sign skip_char

@@ -19,7 +19,7 @@ use Rattle.gix_date.specs.Fields.Zoned.{IsConvertible, is_instant}
 use Rattle.gix_date.specs.declared.time.Time.{Time}
 use Rattle.gix_date.proofs.Fields.Instants.{date_from}
 use Rattle.gix_date.proofs.Fields.Layouts.{dates_spelled}
-use Rattle.gix_date.proofs.Printing.LocalClocks.{Shows, clock-shown, four-digits-from, shown-by, local-is}
+use Rattle.gix_date.proofs.Printing.LocalClocks.{Shows, clock_is_shown, four-digits-from, shown-by, local-is}
 use Rattle.gix_date.proofs.Printing.ReadBack.{date-is, date-of, local-ymd, first-at}
 use Rattle.gix_date.proofs.Printing.ShownPieces.{in-range}
 
@@ -38,8 +38,8 @@ of-midnight : (d : LocalDate) (n : ℤ) → is_date d ≡ true → civil_seconds
 unfolding civil_instant
 of-midnight d n real e = grind (arith)
 
-pub short-back : (rule : OffsetRule) (t : Time) → IsConvertible t → HasFourDigitFields t → first_family_by rule (short_text (clock_of t)) ≡ Some (day_read_back t)
-short-back rule t converts four_digits =
+pub short_back : (rule : OffsetRule) (t : Time) → IsConvertible t → HasFourDigitFields t → first_family_by rule (short_text (clock_of t)) ≡ Some (day_read_back t)
+short_back rule t converts four_digits =
     let found = shown-by t converts in
     let z = found.0 in
     let shows = found.1 in
@@ -56,4 +56,4 @@ short-back rule t converts four_digits =
       are = record { front = date_text l.date; rest = []; whole = refl; is = date-is l.date range.high range.month range.day; more = refl };
       comes = comes;
     }) in
-    ap (λ (k : LocalTime). first_family_by rule (short_text k)) (sym (clock-shown z t shows)) ∙ first-at rule 1 text answer held
+    ap (λ (k : LocalTime). first_family_by rule (short_text k)) (sym (clock_is_shown z t shows)) ∙ first-at rule 1 text answer held

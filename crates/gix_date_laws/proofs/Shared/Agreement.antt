@@ -490,5 +490,5 @@ git-says rule text u h = by (iso8601_answer text) (iso8601_strict_answer text) r
         alone-first rule Iso8601Strict text u (differ Iso8601Strict GitForm refl) (differ Iso8601Strict RelativeText refl) (ap is_some q) ∙ strict-git rule text (ap is_some q) h
     by None None p q = git-first rule text u p q h
 
-pub comes-first : (rule : OffsetRule) (text : List ℕ) → IsUtf8 text → ComesFirst rule text
-comes-first rule text u = grind (arith, alone-first, git-says, relative-first, counting)
+pub comes_first : (rule : OffsetRule) (text : List ℕ) → IsUtf8 text → ComesFirst rule text
+comes_first rule text u = grind (arith, alone-first, git-says, relative-first, counting)

@@ -16,7 +16,7 @@ use Rattle.gix_date.specs.Families.Raw.{OffsetRule, raw_time_by}
 use Rattle.gix_date.specs.Relative.Dates.{relative_date, RelativeDate}
 use Rattle.gix_date.specs.Fields.Layout.{LocalTime, Piece, read_pieces, nothing_read, layout_answer}
 use Rattle.gix_date.specs.declared.time.Time.{Time}
-use Rattle.gix_date.proofs.Families.Exclusive.{place, differ, answered, are-exclusive}
+use Rattle.gix_date.proofs.Families.Exclusive.{place, differ, answered, are_exclusive}
 
 -- where Git's own forms come first, and relative texts
 pub git-first : (rule : OffsetRule) (text : List ℕ) → IsUtf8 text → family_answer rule Iso8601 text ≡ None
@@ -24,7 +24,7 @@ pub git-first : (rule : OffsetRule) (text : List ℕ) → IsUtf8 text → family
     → first_family_by rule text ≡ family_answer rule GitForm text
 unfolding first_family_by
 git-first rule text u p q h =
-    let none : (b : Family) → (place GitForm == place b) ≡ false → overlap GitForm b ≡ false → family_answer rule b text ≡ None = λ b d o. are-exclusive rule text u GitForm b (differ GitForm b d) o h in
+    let none : (b : Family) → (place GitForm == place b) ≡ false → overlap GitForm b ≡ false → family_answer rule b text ≡ None = λ b d o. are_exclusive rule text u GitForm b (differ GitForm b d) o h in
     let a = answered rule GitForm text h in
     rw (none AtText refl refl, none Short refl refl, none Rfc2822 refl refl, p, q, none Gitoxide refl refl, none Default refl refl, none BareEpoch refl refl, a.1) refl
 
@@ -32,7 +32,7 @@ pub relative-first : (rule : OffsetRule) (text : List ℕ) → IsUtf8 text → f
     → Holds rule RelativeText text → first_family_by rule text ≡ family_answer rule RelativeText text
 unfolding first_family_by
 relative-first rule text u g h =
-    let none : (b : Family) → (place RelativeText == place b) ≡ false → overlap RelativeText b ≡ false → family_answer rule b text ≡ None = λ b d o. are-exclusive rule text u RelativeText b (differ RelativeText b d) o h in
+    let none : (b : Family) → (place RelativeText == place b) ≡ false → overlap RelativeText b ≡ false → family_answer rule b text ≡ None = λ b d o. are_exclusive rule text u RelativeText b (differ RelativeText b d) o h in
     let a = answered rule RelativeText text h in
     rw (none AtText refl refl, none Short refl refl, none Rfc2822 refl refl, none Iso8601 refl refl, none Iso8601Strict refl refl, none Gitoxide refl refl, none Default refl refl, none BareEpoch refl refl, g, a.1) refl
 

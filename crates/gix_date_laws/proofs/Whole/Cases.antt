@@ -21,10 +21,10 @@ use Rattle.gix_date.specs.declared.parsing.careful.Texts.TheVariants as texts
 use Rattle.gix_date.specs.declared.parsing.careful.WithoutOffset.{WithoutOffset}
 use Rattle.gix_date.specs.declared.parsing.careful.WithoutOffset.TheVariants as zone
 use Rattle.gix_date.specs.declared.time.Time.{Time}
-use Rattle.gix_date_laws.proofs.Shared.Agreement.{comes-first}
+use Rattle.gix_date_laws.proofs.Shared.Agreement.{comes_first}
 use Rattle.gix_date_laws.proofs.Clear.Dates.{careful-pairs, answers-pairs}
 use Rattle.gix_date_laws.proofs.Clear.Grammar.{PairsAnswer, careful-text}
-use Rattle.gix_date_laws.proofs.Whole.Reading.{plain-time, answers, unzoned-by-day, unzoned-by-git}
+use Rattle.gix_date_laws.proofs.Whole.Reading.{plain_time, answers, unzoned-by-day, unzoned-by-git}
 
 abbrev FirstOf : CarefulOptions → List ℕ → Reading
 FirstOf options text = First (first_family_by (allows options.raw) text)
@@ -57,7 +57,7 @@ years-say options text true reading h = h
 years-say options text false reading h = late refl
 
 git-first : (options : CarefulOptions) (text : List ℕ) (t : Time) → IsUtf8 text → git_time text ≡ Some t → first_family_by (allows options.raw) text ≡ Some (Absolute t)
-git-first options text t u e = (comes-first (allows options.raw) text u).git (ap (λ o. is_some (option_map Absolute o)) e) ∙ ap (option_map Absolute) e
+git-first options text t u e = (comes_first (allows options.raw) text u).git (ap (λ o. is_some (option_map Absolute o)) e) ∙ ap (option_map Absolute) e
 
 day-says : (options : CarefulOptions) (text : List ℕ) (place : ℕ) → IsUtf8 text → (day : Option Time) → unzoned_day text ≡ day → Says options text (unzoned_or options.without_offset day (date_reading (allows options.raw) text place (first_family_by (allows options.raw) text)))
 day-says options text place u None e =
@@ -99,5 +99,5 @@ no-local options text h t zone.Utc z e = cc
 no-local options text (inl utc) t zone.MomentsZone z e = let bad : zone.Utc ≡ zone.MomentsZone = sym utc ∙ z in cc
 no-local options text (inr none) t zone.MomentsZone z e = let bad : None ≡ Some t = sym none ∙ e in cc
 
-pub parsed-too : (options : CarefulOptions) (text : List ℕ) → IsUtf8 text → IsParsedToo options text
-parsed-too options text u none now t h = grind (arith, says, plain-time, no-time, no-late-time, no-local)
+pub parsed_too : (options : CarefulOptions) (text : List ℕ) → IsUtf8 text → IsParsedToo options text
+parsed_too options text u none now t h = grind (arith, says, plain_time, no-time, no-late-time, no-local)

@@ -8,7 +8,7 @@ ghost use Rattle.gix_date_tool.specs.Messages.{no_moment_words, wrong_words};
 ghost use Rattle.gix_date_tool.specs.Command.{command_of, mode_of, asked_of, moment_or_why, why_unread, IsAnswer, IsRequest, IsRunnable};
 
 use crate::error::ToolError;
-use crate::program::names::named;
+use gix_date::names::value_named;
 use gix_date::{ParseError, RawOffsets, Time, parse_no_alloc};
 use std::alloc::{AllocError, Global};
 use std::rt::Env;
@@ -150,7 +150,7 @@ fn mode_named(word: &str) -> Option<Mode>
         ("parse", Mode::Parse),
         ("sign", Mode::Sign),
     ];
-    named(&modes, word)
+    value_named(&modes, word)
 }
 
 /// What a mode with these words after it asks for.

@@ -138,6 +138,7 @@ pub(crate) fn tail_len(text: &[u8]) -> usize
 }
 
 /// What stands before and after the first such byte.
+#[tactic(auto, using(crate::proofs::Texts::none_there, crate::proofs::Texts::one_there, std::proofs::lemmas::List::take_rest))]
 pub(crate) fn cut_at(text: &[u8], byte: u8) -> Option<(&[u8], &[u8])>
     ensures { MatchOption result (list_any (λ c. c == byte) text.now ≡ false) (λ found. (list_any (λ c. c == byte) text.now ≡ true)
         × (found.0.now ≡ before_first (λ c. c == byte) text.now) × (found.1.now ≡ after_first (λ c. c == byte) text.now)) }
@@ -150,6 +151,7 @@ pub(crate) fn cut_at(text: &[u8], byte: u8) -> Option<(&[u8], &[u8])>
 }
 
 /// What stands after the first such byte, or nothing.
+#[tactic(auto, using(std::proofs::lemmas::List::take_rest, crate::proofs::Texts::after_place))]
 pub(crate) fn after_first(text: &[u8], byte: u8) -> &[u8]
     ensures { result.now ≡ after_first (λ c. c == byte) text.now }
 {
@@ -157,6 +159,7 @@ pub(crate) fn after_first(text: &[u8], byte: u8) -> &[u8]
 }
 
 /// Whether a text holds NUL.
+#[tactic(auto, using(crate::proofs::Texts::place_within))]
 pub(crate) fn has_nul(text: &[u8]) -> bool
     ensures { result ≡ list_any is_nul text.now }
 {

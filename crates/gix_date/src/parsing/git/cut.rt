@@ -11,6 +11,7 @@ use crate::parsing::space_words::trimmed;
 /// 2. Its last space stands above place 5, and after it, white space aside, a sign is first: that is the offset.
 /// 3. The last sign directly before a digit, at a place of 2 or more, begins the offset.
 /// 4. All is the clock, and the offset is empty.
+#[tactic(auto, using(crate::proofs::Git::ClockCuts::cut_means))]
 pub(crate) fn clock_cut(text: &str) -> (&str, &str)
     ensures value { (result.0.now, result.1.now) ≡ clock_cut text.now }
     ensures meaning { IsCut text.now result.0.now result.1.now }
@@ -35,6 +36,7 @@ fn first_cut(text: &str) -> (&str, &str)
     (text, "")
 }
 
+#[tactic(auto, using(crate::proofs::Git::ClockCuts::z_found, std::proofs::lemmas::Grind::common_steps, crate::proofs::Git::ClockCuts::z_none))]
 fn cut_at_z(text: &str) -> Option<(&str, &str)>
     ensures { option_map (λ cut. (cut.0.now, cut.1.now)) result ≡ cut_at_z text.now }
 {

@@ -8,6 +8,7 @@ use crate::parsing::numbers::{MAX_DIGITS, are_digits};
 
 /// Whether a text is a usual canonical header: at most 18 digits, the first no zero, one space, and an offset that is not
 /// behind UTC by less than an hour. `false` means only that the text has another form.
+#[tactic(auto, using(crate::proofs::Fast::CanonicalBytes::usual_canonical))]
 pub(crate) fn fast_canonical(text: &str) -> bool
     ensures { IsTrue result → is_canonical_header text.now ≡ true }
 {

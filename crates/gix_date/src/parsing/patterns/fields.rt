@@ -14,7 +14,7 @@ use crate::parsing::numbers::{read_field, read_year};
 use crate::time::MAX_SECOND;
 
 /// What stands after one space or more. Nearly all texts have one.
-#[tactic(auto, unfolding(crate::specs::Fields::DateFields::skip_spaces))]
+#[tactic(auto, using(crate::proofs::Text::AsciiCuts::first_end), unfolding(crate::specs::Fields::DateFields::skip_spaces))]
 #[inline(always)]
 pub(crate) fn skip_spaces(text: &str) -> Option<&str>
     ensures { option_copied result ≡ skip_spaces text.now }
@@ -26,7 +26,7 @@ pub(crate) fn skip_spaces(text: &str) -> Option<&str>
 }
 
 /// [`skip_spaces`] for any number of spaces.
-#[tactic(auto, unfolding(crate::specs::Fields::DateFields::skip_spaces))]
+#[tactic(auto, using(crate::proofs::Text::AsciiCuts::spaces_end), unfolding(crate::specs::Fields::DateFields::skip_spaces))]
 fn skip_any_spaces(text: &str) -> Option<&str>
     ensures { option_copied result ≡ skip_spaces text.now }
 {
@@ -56,7 +56,7 @@ fn month_named(a: u8, b: u8, c: u8) -> Option<u8>
 }
 
 /// Whether three letters name a day of the week, in any letter case.
-#[tactic(auto, unfolding(crate::specs::Fields::DateFields::is_weekday))]
+#[tactic(auto, using(crate::proofs::Fields::ThreeLetters::weekday_is, crate::proofs::Fields::ThreeLetters::day_has_letters), unfolding(crate::specs::Fields::DateFields::is_weekday))]
 #[inline(always)]
 fn is_weekday(a: u8, b: u8, c: u8) -> bool
     ensures value { result ≡ is_weekday (a ∷ b ∷ c ∷ []) }
@@ -82,7 +82,7 @@ pub(crate) fn read_month(text: &str) -> Option<(u8, &str)>
 }
 
 /// What stands after the name of a day of the week, whichever it is: it is not compared with the date.
-#[tactic(auto, unfolding(crate::specs::Fields::DateFields::skip_weekday))]
+#[tactic(auto, using(crate::proofs::Fields::NamesRead::cut_three, crate::proofs::Fields::NamesRead::day_of_letters, crate::proofs::Fields::NamesRead::no_day_of, crate::proofs::Fields::NamesRead::short_no_day), unfolding(crate::specs::Fields::DateFields::skip_weekday))]
 #[inline(always)]
 pub(crate) fn skip_weekday(text: &str) -> Option<&str>
     ensures { option_copied result ≡ skip_weekday text.now }

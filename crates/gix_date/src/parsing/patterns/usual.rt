@@ -296,6 +296,7 @@ fn gitoxide(text: &[u8]) -> Option<Fields>
 }
 
 /// The time of a date and a clock at an offset.
+#[tactic(auto, using(std::proofs::lemmas::Int::ints, crate::proofs::Printing::ReadBack::answer_is))]
 #[inline(always)]
 fn time_at(date: DateFields, clock: ClockFields, offset: OffsetInSeconds) -> Option<Time>
     requires date { DateFits date }

@@ -79,6 +79,7 @@ fn ends_in_ago(last: Option<&str>) -> bool
 }
 
 /// The word that begins at this place.
+#[tactic(auto, using(crate::proofs::Relative::RelativeWordSteps::word_end))]
 fn word_at(text: &str, place: usize) -> &str
     requires { IsWordPlace text.now place }
     ensures { result.now ≡ word_at text.now place }

@@ -40,6 +40,7 @@ pub(crate) fn subtract<'a>(moment: Zoned<'a>, pair: Pair) -> Option<Zoned<'a>>
 }
 
 /// Subtracts seconds from a moment.
+#[tactic(auto, using(crate::proofs::Text::Ints::held, crate::proofs::Relative::Steps::at_same))]
 fn subtract_seconds<'a>(moment: Zoned<'a>, seconds: i64) -> Option<Zoned<'a>>
     ensures step { IsAt (SecondsStep (zone_of moment.entry) seconds (zoned_nanos moment.entry)) result }
     ensures zone { IfSome result (KeepsZone moment.entry) }

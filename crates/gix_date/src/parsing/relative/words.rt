@@ -25,6 +25,7 @@ pub(crate) enum TimeUnit {
 }
 
 /// The first word of a text, and what stands after it. A word is a longest run of ASCII letters and digits.
+#[tactic(auto, using(crate::proofs::Relative::RelativeWordSteps::word_end))]
 pub(crate) fn next_word(text: &str) -> Option<(&str, &str)>
     ensures words { MatchOption result (relative_words text.now ≡ [])
         (λ found. relative_words text.now ≡ found.0.now ∷ relative_words found.1.now) }
@@ -39,6 +40,7 @@ pub(crate) fn next_word(text: &str) -> Option<(&str, &str)>
 }
 
 /// The text from its first word on.
+#[tactic(auto, using(crate::proofs::Relative::RelativeWordSteps::gap_end))]
 fn skip_gap(text: &str) -> &str
     ensures { result.now ≡ drop (prefix_len is_gap text.now) text.now }
 {
@@ -116,6 +118,7 @@ pub(crate) fn unit_of(period: &str) -> Option<TimeUnit>
 }
 
 /// A period without one final `s` or `S`.
+#[tactic(auto, using(crate::proofs::Relative::RelativeCounts::without_small, std::proofs::lemmas::Grind::common_steps, crate::proofs::Relative::RelativeCounts::without_other))]
 fn singular(period: &str) -> &str
     ensures { result.now ≡ singular period.now }
 {

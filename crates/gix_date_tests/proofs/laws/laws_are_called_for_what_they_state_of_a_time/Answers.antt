@@ -3,7 +3,7 @@ use Rattle.jiff.specs.Words.{plain_zoned}
 use Rattle.gix_date.specs.Fields.Layout.{LocalTime}
 use Rattle.gix_date.specs.Printing.LocalClocks.{clock_of, date_of_day}
 use Rattle.gix_date.specs.declared.time.Time.{Time}
-use Rattle.gix_date.proofs.Printing.LocalClocks.{clock-shown, moment-shows}
+use Rattle.gix_date.proofs.Printing.LocalClocks.{clock_is_shown, moment-shows}
 use Rattle.gix_date.proofs.Relative.FixedTimes.{moment-fixed}
 use Rattle.gix_date_tests.proofs.laws.laws_are_called_for_what_they_state_of_a_time.Goals as goal
 
@@ -22,7 +22,7 @@ unfolding clock_of date_of_day
 months_add-requires-clause-day g c =
     let moment = c.in_ok-moment.moment in
     let time = c.new-time.result in
-    let shown = clock-shown (plain_zoned moment) time (moment-shows time moment c.in_ok-moment.ensures.value) in
+    let shown = clock_is_shown (plain_zoned moment) time (moment-shows time moment c.in_ok-moment.ensures.value) in
     let day : (plain_zoned moment).datetime.date.day ≡ 19 =
     ap (λ (l : LocalTime). l.date.day) shown ∙ ap (λ (t : Time). (clock_of t).date.day) c.new-time.ensures in
     omega (arith, day)

@@ -5,7 +5,7 @@ use Rattle.gix_date.specs.Git.Forms.{read_marked_date}
 use Rattle.gix_date.specs.Text.Front.{ReadFront, skip_char}
 use Rattle.gix_date.specs.Text.Numbers.{two_digit_value, read_two_digits, read_year}
 use Rattle.gix_date.specs.declared.civil.DateFields.{DateFields}
-use Rattle.gix_date.proofs.Text.AsciiCuts.{cut-pair}
+use Rattle.gix_date.proofs.Text.AsciiCuts.{cut_pair}
 use Rattle.gix_date.proofs.parsing.fields.read_marked_date.Goals as goal
 
 -- the date of four pairs of digits, and the rest
@@ -43,7 +43,7 @@ of-bytes mark bytes text x y z w t n first second p q r s =
 
 pub range_from-requires : goal.range_from-requires
 range_from-requires c = λ _.
-    cut-pair c.as_bytes.result.now c.args.text.now 9 c.in-Some-parse_two_digits-3.day c.as_bytes.ensures.value c.utf8.text
+    cut_pair c.as_bytes.result.now c.args.text.now 9 c.in-Some-parse_two_digits-3.day c.as_bytes.ensures.value c.utf8.text
     (omega (arith, c.in-len10-up.len_at_least)) c.in-Some-parse_two_digits-3.ensures.value
 
 pub returns-in_default-parse_two_digits-clause-value : goal.returns-in_default-parse_two_digits-clause-value

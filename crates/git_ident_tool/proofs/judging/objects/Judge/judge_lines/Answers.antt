@@ -7,7 +7,7 @@ use Rattle.git_ident_tool.specs.Lines.{JudgesRest}
 use Rattle.git_ident_tool.specs.Verdicts.{Tells, is_clean, text_due}
 use Rattle.git_ident_tool.specs.declared.judging.objects.TheConstants.{MAX_OBJECTS}
 use Rattle.git_ident_tool.specs.declared.stream.cursor.LineEnd.{LineEnd}
-use Rattle.git_ident_tool.proofs.Lines.{LinesFar, first-text, next-text, rest-ends, stops-full-lines, stops-long, stops-reading-text, stops-telling-text}
+use Rattle.git_ident_tool.proofs.Lines.{LinesFar, first-text, next_text, rest-ends, stops-full-lines, stops-long, stops-reading-text, stops-telling-text}
 use Rattle.git_ident_tool.proofs.judging.objects.Judge.judge_lines.Goals as goal
 
 pub texts-init : goal.texts-init
@@ -68,7 +68,7 @@ texts-preserved g c =
     let z = g.W.Sink.known c.judge_text.new.writer in
     record {
       far = subst (λ (clean : Bool). LinesFar telling (flow (change a d) (change x z)) clean (c.texts.count + 1)) (sym c.both-clean.ensures)
-          (next-text telling a b d x y z line c.texts.clean c.in-Ok.one c.texts.count (MAX_LINE_LEN + 1) c.texts.invariant.far
+          (next_text telling a b d x y z line c.texts.clean c.in-Ok.one c.texts.count (MAX_LINE_LEN + 1) c.texts.invariant.far
           (subst (λ (end : LineEnd). ReadsLine (MAX_LINE_LEN + 1) b d line (Ok end)) c.in-Ok-Newline.field-0-is c.in-Ok-Newline.ensures)
           (subst (λ (l : List ℕ). Tells (text_due telling l) (is_clean l) (change y z) (Ok c.in-Ok.one)) c.as_slice-in-texts.ensures.value c.in-Ok.ensures));
       few = omega arith;

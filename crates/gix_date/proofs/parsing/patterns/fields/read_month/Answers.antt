@@ -1,6 +1,6 @@
 use Rattle.std.proofs.Common.{ℕ, List, ◌∙◌, ap, sym, Some, arith, subst, None, ◌≡◌}
 use Rattle.gix_date.specs.Text.Front.{read_view}
-use Rattle.gix_date.proofs.Fields.NamesRead.{month-of, short-no-month, cut-three, no-month-at}
+use Rattle.gix_date.proofs.Fields.NamesRead.{month-of, short-no-month, cut_three, no-month-at}
 use Rattle.gix_date.specs.Fields.DateFields.{read_month}
 use Rattle.gix_date.proofs.parsing.patterns.fields.read_month.Goals as goal
 
@@ -11,7 +11,7 @@ returns-in_err-month-in-len3-up-clause-value c =
 
 pub range_from-requires : goal.range_from-requires
 range_from-requires c = λ _.
-    cut-three c.as_bytes.result.now c.args.text.now c.as_bytes.ensures.value c.utf8.text c.in-len3-up.len_at_least
+    cut_three c.as_bytes.result.now c.args.text.now c.as_bytes.ensures.value c.utf8.text c.in-len3-up.len_at_least
     c.in_ok-month-in-len3-up.ensures.letters
 
 pub returns-in_default-clause-value : goal.returns-in_default-clause-value

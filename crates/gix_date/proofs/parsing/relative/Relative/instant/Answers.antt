@@ -1,7 +1,7 @@
 use Rattle.jiff.specs.Words.{plain_zoned, zoned_nanos}
 use Rattle.gix_date.specs.Relative.Words.{relative_words}
 use Rattle.gix_date.proofs.Relative.Chains.{reaches-is, reaches-back}
-use Rattle.gix_date.proofs.Relative.Steps.{at-same}
+use Rattle.gix_date.proofs.Relative.Steps.{at_same}
 use Rattle.gix_date.proofs.parsing.relative.Relative.instant.Goals as goal
 
 pub returns-in_err-resolve-in-MinusPairs-clause-reaches : goal.returns-in_err-resolve-in-MinusPairs-clause-reaches
@@ -15,7 +15,7 @@ returns-in_ok-resolve-in-MinusPairs-clause-reaches c =
     let start = c.in_ok-resolve-in-MinusPairs.field-0 in
     let resolves = c.in_ok-resolve-in-MinusPairs.ensures.step in
     let chain = rw c.in_ok-resolve-in-MinusPairs.ensures.zone at c.subtract_pairs.ensures.chain in
-    rw c.in-MinusPairs.is (at-same c.subtract_pairs.result _ _
+    rw c.in-MinusPairs.is (at_same c.subtract_pairs.result _ _
     (λ j h. reaches-is tz words (zoned_nanos c.args.moment) (zoned_nanos start) j resolves h)
     (λ j h. reaches-back tz words (zoned_nanos c.args.moment) (zoned_nanos start) j resolves h)
     chain)

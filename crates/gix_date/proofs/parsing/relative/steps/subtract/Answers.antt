@@ -1,6 +1,6 @@
 use Rattle.std.proofs.Common.{rules, FitsSigned, w64}
 use Rattle.std.proofs.lemmas.Int.{to_z-of_z}
-use Rattle.gix_date.proofs.Relative.Steps.{at-same}
+use Rattle.gix_date.proofs.Relative.Steps.{at_same}
 use Rattle.gix_date.proofs.parsing.relative.steps.subtract.Goals as goal
 
 pub returns-in_err-checked_mul-in-Seconds-clause-step : goal.returns-in_err-checked_mul-in-Seconds-clause-step
@@ -24,7 +24,7 @@ returns-in_ok-checked_mul-in-Seconds-clause-step c =
     let made = simp to_z-of_z at c.in_ok-checked_mul-in-Seconds.ensures in
     let fn : FitsSigned w64 c.in_ok-checked_mul-in-Seconds.field-0 = rw made.1 made.0 in
     let step = rw made.1 at (simp to_z-of_z at c.subtract_seconds.ensures.step) in
-    rw c.in-Seconds.is (at-same c.subtract_seconds.result _ _ (λ j h. (made.0, h)) (λ j h. h.1) step)
+    rw c.in-Seconds.is (at_same c.subtract_seconds.result _ _ (λ j h. (made.0, h)) (λ j h. h.1) step)
 
 pub returns-in_ok-checked_mul-in-Months-clause-step : goal.returns-in_ok-checked_mul-in-Months-clause-step
 returns-in_ok-checked_mul-in-Months-clause-step c =
@@ -33,4 +33,4 @@ returns-in_ok-checked_mul-in-Months-clause-step c =
     let made = simp to_z-of_z at c.in_ok-checked_mul-in-Months.ensures in
     let fn : FitsSigned w64 c.in_ok-checked_mul-in-Months.field-0 = rw made.1 made.0 in
     let step = rw made.1 at (simp to_z-of_z at c.subtract_months.ensures.step) in
-    rw c.in-Months.is (at-same c.subtract_months.result _ _ (λ j h. (made.0, h)) (λ j h. h.1) step)
+    rw c.in-Months.is (at_same c.subtract_months.result _ _ (λ j h. (made.0, h)) (λ j h. h.1) step)

@@ -2,15 +2,12 @@ use Rattle.std.proofs.Common.{◌<◌, ap, ◌∙◌, sym, arith, ◌∷◌, dro
 use Rattle.std.specs.List.{prefix_len}
 use Rattle.std.specs.Char.{is_ascii_alphanumeric}
 use Rattle.gix_date.specs.Relative.Words.{relative_words}
-use Rattle.gix_date.proofs.Relative.RelativeWordSteps.{no_word, word_comes, cut_after}
+use Rattle.gix_date.proofs.Relative.RelativeWordSteps.{no_word, word_comes}
 use Rattle.gix_date.proofs.parsing.relative.words.next_word.Goals as goal
 
 pub returns-then-len-eq0-clause-words : goal.returns-then-len-eq0-clause-words
 returns-then-len-eq0-clause-words c =
     no_word c.args.text.now (ap (prefix_len is_ascii_alphanumeric) (sym c.skip_gap-from.ensures) ∙ sym c.word_len-len.ensures ∙ c.if-len-eq0.true)
-
-pub split_at-requires : goal.split_at-requires
-split_at-requires c = cut_after c.skip_gap-from.result.now c.word_len-len.result c.skip_gap-from.utf8 c.word_len-len.ensures
 
 pub returns-clause-words : goal.returns-clause-words
 returns-clause-words c =
