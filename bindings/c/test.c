@@ -559,15 +559,15 @@ typedef uint32_t formatter(const gix_date_time *, uint32_t, char *, size_t, size
 static void formats(formatter *format)
 {
     static const char *const texts[] = {
-        "2022-08-18",
-        "Thu, 18 Aug 2022 12:45:06 +0800",
-        "Thu, 18 Aug 2022 12:45:06 +0800",
-        "2022-08-18 12:45:06 +0800",
-        "2022-08-18T12:45:06+08:00",
-        "Thu Aug 18 2022 12:45:06 +0800",
-        "Thu Aug 18 12:45:06 2022 +0800",
-        "1660797906",
-        "1660797906 +0800",
+        [GIX_DATE_UNIX] = "1660797906",
+        [GIX_DATE_RAW] = "1660797906 +0800",
+        [GIX_DATE_SHORT] = "2022-08-18",
+        [GIX_DATE_RFC2822] = "Thu, 18 Aug 2022 12:45:06 +0800",
+        [GIX_DATE_GIT_RFC2822] = "Thu, 18 Aug 2022 12:45:06 +0800",
+        [GIX_DATE_ISO8601] = "2022-08-18 12:45:06 +0800",
+        [GIX_DATE_ISO8601_STRICT] = "2022-08-18T12:45:06+08:00",
+        [GIX_DATE_GITOXIDE] = "Thu Aug 18 2022 12:45:06 +0800",
+        [GIX_DATE_DEFAULT] = "Thu Aug 18 12:45:06 2022 +0800",
     };
     static const gix_date_time time = {1660797906, 28800}, early = {-62198755200, 0};
     for (uint32_t i = 0; i < sizeof texts / sizeof *texts; i++) {
