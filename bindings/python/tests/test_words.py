@@ -26,7 +26,7 @@ def test_examples_of_formats_are_printed() -> None:
     shown = examples(Format)
     assert list(shown) == [form.name for form in Format]
     for form in Format:
-        assert Time(1660797906, 28800).format(form) == shown[form.name]
+        assert gix_date.parse(shown[form.name]).format(form) == shown[form.name]
         assert getattr(gix_date, form.name) is form
     assert Time(1660118400, 0).format(Format.RFC2822).startswith("Wed, 10 ")
     assert Time(1659340800, 0).format(Format.RFC2822).startswith("Mon, 01 ")
