@@ -5,8 +5,6 @@ pub mod RelativeRows
 pub mod ChangedFlagRows
 pub mod ReadRows
 pub mod ShowRows
-pub mod ZoneRows
 pub mod SearchRows
 pub mod DecimalRows
-pub mod ModeRows
 pub mod FormatRows

@@ -1,14 +1,10 @@
 //! A fast path for dates as Git prints them. `None` means only that a text has another form.
-ghost use Rattle.std.specs.Prelude.{◌≡◌, ◌+◌, ◌*◌, ◌<◌, ◌∷◌, [], IfSome, pos, Some, None, true, false};
-ghost use Rattle.gix_date.specs.Fields.DateOffsets.{strict_offset_text};
-ghost use Rattle.gix_date.specs.Fields.Offsets.{compact_offset_text};
-ghost use Rattle.git_date.specs.Rules.Dates.{first_of_year_2100};
-ghost use Rattle.git_date.specs.Exact.Fast.{WritesTwo, WritesYear, WritesMonth, WritesWeekday, is_date_mark, WritesDate, WritesDay, WritesMonthYear, WritesMailDate, WritesMailDay, WritesNamedDay, WritesClock, WritesTime, WritesStrictTime, WritesYearOffset, WritesYearTime, WritesOffset, WritesSeconds, WritesRaw, fields_in, SaysFields, Says};
-ghost use Rattle.git_date.specs.Exact.Outcome.{SaidIsInstant};
+ghost use Rattle.std.specs.Prelude.{◌≡◌, ◌∷◌, [], IfSome};
+ghost use Rattle.git_date.specs as Spec;
+ghost use Rattle.gix_date.specs as GixDate;
 
 use crate::fields::Fields;
 use crate::fields::offsets::signed_minutes;
-use crate::reader::Said;
 use gix_date::names::{day_name, month_name, month_told, weekday_told};
 
 /// Year, month and day.
@@ -24,13 +20,10 @@ const TIME_LEN: usize = 15;
 
 const YEAR_TIME_LEN: usize = 20;
 
-/// How many bytes `1660797906 +0800` has.
-const RAW_LEN: usize = 16;
-
 /// The number that two digits write, if it is within these bounds.
 #[inline(always)]
-fn two(low: u8, high: u8, tens: u8, ones: u8) -> Option<u8>
-    ensures { IfSome result (WritesTwo low high tens ones) }
+pub(crate) fn two(low: u8, high: u8, tens: u8, ones: u8) -> Option<u8>
+    ensures { IfSome result (Spec.WritesTwo low high tens ones) }
 {
     if !tens.is_ascii_digit() || !ones.is_ascii_digit() {
         return None;
@@ -42,7 +35,7 @@ fn two(low: u8, high: u8, tens: u8, ones: u8) -> Option<u8>
 /// The year that four digits write, if Git knows it.
 #[inline(always)]
 fn year(a: u8, b: u8, c: u8, d: u8) -> Option<u16>
-    ensures { IfSome result (WritesYear (a ∷ b ∷ c ∷ d ∷ [])) }
+    ensures { IfSome result (Spec.WritesYear (a ∷ b ∷ c ∷ d ∷ [])) }
 {
     let century = two(19, 20, a, b)?;
     let years = two(0, 99, c, d)?;
@@ -53,7 +46,7 @@ fn year(a: u8, b: u8, c: u8, d: u8) -> Option<u16>
 /// The month that has this name, in the letter case that Git prints.
 #[inline(always)]
 fn month(a: u8, b: u8, c: u8) -> Option<u8>
-    ensures { IfSome result (WritesMonth (a ∷ b ∷ c ∷ [])) }
+    ensures { IfSome result (Spec.WritesMonth (a ∷ b ∷ c ∷ [])) }
 {
     let name: &[u8] = &[a, b, c];
     let month = month_told(name)?;
@@ -63,7 +56,7 @@ fn month(a: u8, b: u8, c: u8) -> Option<u8>
 /// The day of the week that has this name, in the letter case that Git prints, from 0 for Monday.
 #[inline(always)]
 fn weekday(a: u8, b: u8, c: u8) -> Option<u8>
-    ensures { IfSome result (WritesWeekday (a ∷ b ∷ c ∷ [])) }
+    ensures { IfSome result (Spec.WritesWeekday (a ∷ b ∷ c ∷ [])) }
 {
     let name: &[u8] = &[a, b, c];
     let weekday = weekday_told(name)?;
@@ -73,7 +66,7 @@ fn weekday(a: u8, b: u8, c: u8) -> Option<u8>
 /// The date of `2022-08-18`, `2022.08.18` or `2022/08/18`.
 #[inline(always)]
 fn date(text: &[u8]) -> Option<Date>
-    ensures { IfSome result (WritesDate text.now) }
+    ensures { IfSome result (Spec.WritesDate text.now) }
 {
     match text {
         [a, b, c, d, mark, e, f, again, g, h] if is_date_mark(*mark) && mark == again => {
@@ -88,15 +81,16 @@ fn date(text: &[u8]) -> Option<Date>
 
 #[inline(always)]
 fn is_date_mark(mark: u8) -> bool
-    ensures { result ≡ is_date_mark mark }
+    ensures { result ≡ Spec.is_date_mark mark }
 {
     mark == b'-' || mark == b'.' || mark == b'/'
 }
 
 /// The day of `7`, `07` or `18`.
+#[tactic(auto, using(crate::proofs::Exact::FastTexts::one_digit))]
 #[inline(always)]
 fn day(text: &[u8]) -> Option<u8>
-    ensures { IfSome result (WritesDay text.now) }
+    ensures { IfSome result (Spec.WritesDay text.now) }
 {
     match text {
         [a] => two(1, 9, b'0', *a),
@@ -108,7 +102,7 @@ fn day(text: &[u8]) -> Option<u8>
 /// The month and the year of ` Aug 2022`.
 #[inline(always)]
 fn month_year(text: &[u8]) -> Option<(u8, u16)>
-    ensures { IfSome result (WritesMonthYear text.now) }
+    ensures { IfSome result (Spec.WritesMonthYear text.now) }
 {
     match text {
         [space, a, b, c, again, d, e, f, g] if *space == b' ' && *again == b' ' => {
@@ -123,7 +117,7 @@ fn month_year(text: &[u8]) -> Option<(u8, u16)>
 /// The date of `18 Aug 2022`.
 #[inline(always)]
 fn mail_date(text: &[u8]) -> Option<Date>
-    ensures { IfSome result (WritesMailDate text.now) }
+    ensures { IfSome result (Spec.WritesMailDate text.now) }
 {
     let (front, back) = text.split_at(text.len().checked_sub(MONTH_YEAR_LEN)?);
     let day = day(front)?;
@@ -134,7 +128,7 @@ fn mail_date(text: &[u8]) -> Option<Date>
 /// The date of `Thu, 18 Aug 2022`.
 #[inline(always)]
 fn mail_day(text: &[u8]) -> Option<Date>
-    ensures { IfSome result (WritesMailDay text.now) }
+    ensures { IfSome result (Spec.WritesMailDay text.now) }
 {
     match text {
         [a, b, c, comma, space, rest @ ..] if *comma == b',' && *space == b' ' => {
@@ -148,7 +142,7 @@ fn mail_day(text: &[u8]) -> Option<Date>
 /// The month and the day of `Thu Aug 18`.
 #[inline(always)]
 fn named_day(text: &[u8]) -> Option<(u8, u8)>
-    ensures { IfSome result (WritesNamedDay text.now) }
+    ensures { IfSome result (Spec.WritesNamedDay text.now) }
 {
     match text {
         [a, b, c, space, d, e, f, again, rest @ ..] if *space == b' ' && *again == b' ' => {
@@ -164,7 +158,7 @@ fn named_day(text: &[u8]) -> Option<(u8, u8)>
 /// The clock of `12:45:06`.
 #[inline(always)]
 fn clock(text: &[u8]) -> Option<Clock>
-    ensures { IfSome result (WritesClock text.now) }
+    ensures { IfSome result (Spec.WritesClock text.now) }
 {
     match text {
         [a, b, colon, c, d, again, e, f] if *colon == b':' && *again == b':' => {
@@ -180,7 +174,7 @@ fn clock(text: &[u8]) -> Option<Clock>
 /// The minutes of an offset. `-0001`, which is none, and `-0000` are left to the rules.
 #[inline(always)]
 fn minutes(sign: u8, a: u8, b: u8, c: u8, d: u8) -> Option<i16>
-    ensures { IfSome result (WritesOffset compact_offset_text (sign ∷ a ∷ b ∷ c ∷ d ∷ [])) }
+    ensures { IfSome result (Spec.WritesOffset GixDate.compact_offset_text (sign ∷ a ∷ b ∷ c ∷ d ∷ [])) }
 {
     let hours = two(0, 23, a, b)?;
     let minutes = two(0, 59, c, d)?;
@@ -196,8 +190,8 @@ fn minutes(sign: u8, a: u8, b: u8, c: u8, d: u8) -> Option<i16>
 
 /// The minutes of `+0800`.
 #[inline(always)]
-fn offset(text: &[u8]) -> Option<i16>
-    ensures { IfSome result (WritesOffset compact_offset_text text.now) }
+pub(crate) fn offset(text: &[u8]) -> Option<i16>
+    ensures { IfSome result (Spec.WritesOffset GixDate.compact_offset_text text.now) }
 {
     match text {
         [sign, a, b, c, d] => minutes(*sign, *a, *b, *c, *d),
@@ -208,7 +202,7 @@ fn offset(text: &[u8]) -> Option<i16>
 /// The minutes of `+08:00`.
 #[inline(always)]
 fn colon_offset(text: &[u8]) -> Option<i16>
-    ensures { IfSome result (WritesOffset strict_offset_text text.now) }
+    ensures { IfSome result (Spec.WritesOffset GixDate.strict_offset_text text.now) }
 {
     match text {
         [sign, a, b, colon, c, d] if *colon == b':' => minutes(*sign, *a, *b, *c, *d),
@@ -219,7 +213,7 @@ fn colon_offset(text: &[u8]) -> Option<i16>
 /// The clock and the offset of ` 12:45:06 +0800`.
 #[inline(always)]
 fn time(text: &[u8]) -> Option<(Clock, i16)>
-    ensures { IfSome result (WritesTime text.now) }
+    ensures { IfSome result (Spec.WritesTime text.now) }
 {
     if text.len() != TIME_LEN || text[0] != b' ' || text[9] != b' ' {
         return None;
@@ -232,7 +226,7 @@ fn time(text: &[u8]) -> Option<(Clock, i16)>
 /// The clock and the offset of `T12:45:06+08:00`.
 #[inline(always)]
 fn strict_time(text: &[u8]) -> Option<(Clock, i16)>
-    ensures { IfSome result (WritesStrictTime text.now) }
+    ensures { IfSome result (Spec.WritesStrictTime text.now) }
 {
     if text.len() != TIME_LEN || text[0] != b'T' {
         return None;
@@ -245,7 +239,7 @@ fn strict_time(text: &[u8]) -> Option<(Clock, i16)>
 /// The year and the offset of ` 2022 +0800`.
 #[inline(always)]
 fn year_offset(text: &[u8]) -> Option<(u16, i16)>
-    ensures { IfSome result (WritesYearOffset text.now) }
+    ensures { IfSome result (Spec.WritesYearOffset text.now) }
 {
     match text {
         [space, a, b, c, d, again, rest @ ..] if *space == b' ' && *again == b' ' => {
@@ -260,7 +254,7 @@ fn year_offset(text: &[u8]) -> Option<(u16, i16)>
 /// The clock, the year and the offset of ` 12:45:06 2022 +0800`.
 #[inline(always)]
 fn year_time(text: &[u8]) -> Option<(Clock, u16, i16)>
-    ensures { IfSome result (WritesYearTime text.now) }
+    ensures { IfSome result (Spec.WritesYearTime text.now) }
 {
     if text.len() != YEAR_TIME_LEN || text[0] != b' ' {
         return None;
@@ -272,7 +266,7 @@ fn year_time(text: &[u8]) -> Option<(Clock, u16, i16)>
 
 #[inline(always)]
 fn fields(date: Date, clock: Clock, offset: i16) -> Fields
-    ensures { result ≡ fields_in date clock offset }
+    ensures { result ≡ Spec.fields_in date clock offset }
 {
     Fields {
         year: Some(date.0),
@@ -289,7 +283,7 @@ fn fields(date: Date, clock: Clock, offset: i16) -> Fields
 /// The fields of `2022-08-18 12:45:06 +0800`.
 #[tactic(auto, using(gix_date::proofs::Text::Ints::held, crate::proofs::Exact::FastTexts::made_says, crate::proofs::Exact::FastTexts::iso_says, crate::proofs::Exact::FastTexts::joined))]
 fn iso8601(text: &[u8]) -> Option<Fields>
-    ensures { IfSome result (SaysFields text.now) }
+    ensures { IfSome result (Spec.SaysFields text.now) }
 {
     let (front, back) = text.split_at(text.len().checked_sub(TIME_LEN)?);
     let date = date(front)?;
@@ -300,7 +294,7 @@ fn iso8601(text: &[u8]) -> Option<Fields>
 /// The fields of `2022-08-18T12:45:06+08:00`.
 #[tactic(auto, using(gix_date::proofs::Text::Ints::held, crate::proofs::Exact::FastTexts::made_says, crate::proofs::Exact::FastTexts::strict_says, crate::proofs::Exact::FastTexts::joined))]
 fn iso8601_strict(text: &[u8]) -> Option<Fields>
-    ensures { IfSome result (SaysFields text.now) }
+    ensures { IfSome result (Spec.SaysFields text.now) }
 {
     let (front, back) = text.split_at(text.len().checked_sub(TIME_LEN)?);
     let date = date(front)?;
@@ -311,7 +305,7 @@ fn iso8601_strict(text: &[u8]) -> Option<Fields>
 /// The fields of `Thu, 18 Aug 2022 12:45:06 +0800`.
 #[tactic(auto, using(gix_date::proofs::Text::Ints::held, crate::proofs::Exact::FastTexts::made_says, crate::proofs::Exact::FastTexts::mail_says, crate::proofs::Exact::FastTexts::joined))]
 fn rfc2822(text: &[u8]) -> Option<Fields>
-    ensures { IfSome result (SaysFields text.now) }
+    ensures { IfSome result (Spec.SaysFields text.now) }
 {
     let (front, back) = text.split_at(text.len().checked_sub(TIME_LEN)?);
     let date = mail_day(front)?;
@@ -320,8 +314,9 @@ fn rfc2822(text: &[u8]) -> Option<Fields>
 }
 
 /// The fields of `Thu Aug 18 12:45:06 2022 +0800`.
+#[tactic(auto, using(gix_date::proofs::Text::Ints::held, crate::proofs::Exact::FastTexts::made_says, crate::proofs::Exact::FastTexts::default_says, crate::proofs::Exact::FastTexts::joined))]
 fn default(text: &[u8]) -> Option<Fields>
-    ensures { IfSome result (SaysFields text.now) }
+    ensures { IfSome result (Spec.SaysFields text.now) }
 {
     let (front, back) = text.split_at(text.len().checked_sub(YEAR_TIME_LEN)?);
     let (month, day) = named_day(front)?;
@@ -331,7 +326,7 @@ fn default(text: &[u8]) -> Option<Fields>
 
 /// The fields of a date as Git prints it.
 pub(crate) fn printed_fields(text: &[u8]) -> Option<Fields>
-    ensures { IfSome result (SaysFields text.now) }
+    ensures { IfSome result (Spec.SaysFields text.now) }
 {
     match text.len() {
         25 if text[10] == b'T' => iso8601_strict(text),
@@ -340,80 +335,5 @@ pub(crate) fn printed_fields(text: &[u8]) -> Option<Fields>
         30 | 31 if text[3] == b',' => rfc2822(text),
         30 => default(text),
         _ => None,
-    }
-}
-
-/// The seconds of ten digits, from 2001 on, in the years that Git knows.
-#[inline(always)]
-fn seconds(text: &[u8]) -> Option<u64>
-    ensures { IfSome result (WritesSeconds text.now) }
-{
-    match text {
-        [a, b, c, d, e, f, g, h, i, j] => {
-            let first = two(10, 40, *a, *b)?;
-            let second = two(0, 99, *c, *d)?;
-            let third = two(0, 99, *e, *f)?;
-            let fourth = two(0, 99, *g, *h)?;
-            let fifth = two(0, 99, *i, *j)?;
-            Some(of_pairs(
-                of_pairs(of_pairs(of_pairs(u64::from(first), second), third), fourth),
-                fifth,
-            ))
-        }
-        _ => None,
-    }
-}
-
-/// The number of these digits and two more.
-#[inline(always)]
-fn of_pairs(front: u64, pair: u8) -> u64
-    requires { front < 10_000_000_000 }
-    ensures { result ≡ 100 * front + pair }
-{
-    100 * front + u64::from(pair)
-}
-
-/// The seconds and the minutes of offset of `1660797906 +0800`.
-#[inline(always)]
-fn raw(text: &[u8]) -> Option<(u64, i16)>
-    ensures { IfSome result (WritesRaw text.now) }
-{
-    if text.len() != RAW_LEN || text[10] != b' ' {
-        return None;
-    }
-    let seconds = seconds(&text[..10])?;
-    let offset = offset(&text[11..])?;
-    Some((seconds, offset))
-}
-
-#[inline(always)]
-fn said_at(seconds: u64, minutes: i16) -> Said
-    requires { seconds < first_of_year_2100 }
-    ensures { result ≡ record { seconds = pos seconds; offset = Some minutes; epoch = true; leap = false; ignored = None } }
-{
-    Said {
-        seconds: seconds as i64,
-        offset: Some(minutes),
-        epoch: true,
-        leap: false,
-        ignored: None,
-    }
-}
-
-/// What `1660797906 +0800` says, alone or after `@`.
-#[tactic(auto, using(gix_date::proofs::Text::Ints::held, crate::proofs::Exact::FastSeconds::at_text_is, crate::proofs::Exact::FastSeconds::raw_text_is))]
-pub(crate) fn printed_seconds(text: &[u8]) -> Option<Said>
-    ensures says { IfSome result (Says text.now) }
-    ensures instant { IfSome result SaidIsInstant }
-{
-    match text {
-        [at, rest @ ..] if *at == b'@' => {
-            let (seconds, minutes) = raw(rest)?;
-            Some(said_at(seconds, minutes))
-        }
-        _ => {
-            let (seconds, minutes) = raw(text)?;
-            Some(said_at(seconds, minutes))
-        }
     }
 }

@@ -1,6 +1,6 @@
 //! What was read of a date so far.
 ghost use Rattle.std.specs.Prelude.{◌≡◌};
-ghost use Rattle.git_date.specs.Rules.Fields.{knows_nothing, knows_date, is_leap, with_clock};
+ghost use Rattle.git_date.specs as Spec;
 
 pub(crate) mod dates;
 pub(crate) mod digits;
@@ -35,7 +35,7 @@ impl Fields {
 
     /// Whether neither a part of the date nor one of the clock is known.
     pub(crate) fn knows_nothing(self) -> bool
-        ensures { result ≡ knows_nothing self }
+        ensures { result ≡ Spec.knows_nothing self }
     {
         self.year.is_none()
             && self.month.is_none()
@@ -47,22 +47,22 @@ impl Fields {
 
     /// Whether the date is known.
     pub(crate) fn knows_date(self) -> bool
-        ensures { result ≡ knows_date self }
+        ensures { result ≡ Spec.knows_date self }
     {
         self.year.is_some() && self.month.is_some() && self.day.is_some()
     }
 
     /// Whether the second is the one after 59.
     pub(crate) fn is_leap(self) -> bool
-        ensures { result ≡ is_leap self }
+        ensures { result ≡ Spec.is_leap self }
     {
         self.second.is_some_and(|second| second == 60)
     }
 
     /// With this clock, if it is one.
-    #[tactic(auto, unfolding(crate::specs::Rules::Fields::with_clock))]
+    #[tactic(auto, unfolding(crate::specs::with_clock))]
     pub(crate) fn with_clock(self, hour: u64, minute: u64, second: u64) -> Option<Fields>
-        ensures { result ≡ with_clock self hour minute second }
+        ensures { result ≡ Spec.with_clock self hour minute second }
     {
         if hour <= 24 && minute <= 59 && second <= 60 {
             Some(Fields {

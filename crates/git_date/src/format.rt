@@ -1,39 +1,32 @@
 //! Dates by a pattern, as `git log --date=format:PATTERN` shows them.
-ghost use Rattle.std.specs.Prelude.{◌≡◌, ◌&&◌, true, false, Some, Ok, IsTrue, is_none, string_bytes, option_map, MatchResult};
+ghost use Rattle.std.specs.Prelude.{◌≡◌, false, Some, Ok, IsTrue, string_bytes, option_map, MatchResult};
 ghost use Rattle.jiff.specs.Types.{TimeZone as Zone};
 ghost use Rattle.jiff.specs.Words.{plain_zone};
-ghost use Rattle.git_date.specs.Show.Clocks.{moment_of};
-ghost use Rattle.git_date.specs.Formats.Format.{asks_seconds, format_bytes, shown_by_format, texts, WritesShown, RefusesText};
-ghost use Rattle.git_date.specs.Formats.Pieces.{checked, is_format, pieces_or_none};
-ghost use Rattle.git_date.specs.Formats.Shown.{shown_of};
+ghost use Rattle.git_date.specs as Spec;
 
 mod begun;
 mod checked;
 mod chunks;
 mod directives;
 mod error;
-mod fault;
 mod flags;
 mod names;
 mod numbers;
 mod pieces;
-mod short;
 mod shown;
 mod texts;
 mod usual;
 mod walks;
 
 pub use checked::DateFormat;
-pub use error::ShowError;
-pub use fault::FormatFault;
+pub use error::{FormatFault, ShowError};
 use gix_date::device::Sink;
 use gix_date::{Time, Zoned};
 use jiff::tz::TimeZone;
-pub use short::{BriefText, ShortText};
-use short::{push_short, push_shown, put_shown};
 use shown::{Shown, own_shown, shown_at};
 use std::alloc::Global;
-use walks::asks_seconds;
+pub use walks::{BriefText, ShortText};
+use walks::{asks_seconds, push_short, push_shown, put_shown};
 
 /// Writes a date as `git log --date=format:PATTERN` shows it, or `format-local:PATTERN` at this moment.
 ///
@@ -50,7 +43,7 @@ pub fn show_by_format<W: Sink>(
     now: Zoned<'_>,
     out: &mut W,
 ) -> Result<(), ShowError>
-    ensures { WritesShown (shown_by_format (moment_of now.entry).zone local (format_bytes format.entry) time)
+    ensures { Spec.WritesShown (Spec.shown_by_format (Spec.moment_of now.entry).zone local (Spec.format_bytes format.entry) time)
         (W.known out.old) (W.known out.new) result }
 {
     let shown = shown_for(time, format, local, now.time_zone()).ok_or(ShowError::Range)?;
@@ -68,8 +61,8 @@ pub fn text_by_format(
     now: Zoned<'_>,
 ) -> Result<String, ShowError>
     ensures { MatchResult result
-        (λ text. shown_by_format (moment_of now.entry).zone local (format_bytes format.entry) time ≡ Some (string_bytes text))
-        (RefusesText (shown_by_format (moment_of now.entry).zone local (format_bytes format.entry) time)) }
+        (λ text. Spec.shown_by_format (Spec.moment_of now.entry).zone local (Spec.format_bytes format.entry) time ≡ Some (string_bytes text))
+        (Spec.RefusesText (Spec.shown_by_format (Spec.moment_of now.entry).zone local (Spec.format_bytes format.entry) time)) }
 {
     text_by_format_in(alloc, time, format, local, now.time_zone())
 }
@@ -83,15 +76,13 @@ pub fn text_by_format_in(
     zone: TimeZone<'_>,
 ) -> Result<String, ShowError>
     ensures { MatchResult result
-        (λ text. shown_by_format (plain_zone zone.entry) local (format_bytes format.entry) time ≡ Some (string_bytes text))
-        (RefusesText (shown_by_format (plain_zone zone.entry) local (format_bytes format.entry) time)) }
+        (λ text. Spec.shown_by_format (plain_zone zone.entry) local (Spec.format_bytes format.entry) time ≡ Some (string_bytes text))
+        (Spec.RefusesText (Spec.shown_by_format (plain_zone zone.entry) local (Spec.format_bytes format.entry) time)) }
 {
     let shown = shown_for(time, format, local, zone).ok_or(ShowError::Range)?;
     let mut text = String::new(alloc);
-    match push_shown(format.text, &shown, &mut text) {
-        Ok(()) => Ok(text),
-        Err(_) => Err(ShowError::Memory),
-    }
+    push_shown(format.text, &shown, &mut text).map_err(|_| ShowError::Memory)?;
+    Ok(text)
 }
 
 /// Puts what [`text_by_format_in`] gives by a format that was not checked into a text of at most 255 bytes, by one walk over
@@ -99,6 +90,7 @@ pub fn text_by_format_in(
 ///
 /// `false` says nothing: the format may have a fault, the time no such clock, or the text no room. Then ask
 /// [`DateFormat::new`] and [`text_by_format_in`]. Years after 2099 are never shown so. Takes no memory.
+#[tactic(auto, using(crate::proofs::Formats::Walks::whole_checked), unfolding(crate::specs::shown_by_format))]
 pub fn short_by_format(
     time: Time,
     format: &str,
@@ -106,55 +98,39 @@ pub fn short_by_format(
     zone: TimeZone<'_>,
     out: &mut ShortText,
 ) -> bool
-    ensures whole { IsTrue result → checked format.now ≡ Ok format.now }
+    ensures whole { IsTrue result → Spec.checked format.now ≡ Ok format.now }
     ensures shown { IsTrue result
-        → shown_by_format (plain_zone zone.entry) local format.now time ≡ Some out.new.bytes }
+        → Spec.shown_by_format (plain_zone zone.entry) local format.now time ≡ Some out.new.bytes }
 {
     out.clear();
-    let Some(shown) = shown_at(time, local, zone) else {
-        return false;
-    };
-    if shown.seconds.is_none() {
-        return false;
+    match shown_at(time, local, zone) {
+        Some(shown) if shown.seconds.is_some() => push_short(out, format, &shown),
+        _ => false,
     }
-    push_short(out, format, &shown)
 }
 
 /// The same by the time's own clock, for which no zone matters, into a text of at most 120 bytes.
+#[tactic(auto, using(crate::proofs::Formats::Walks::whole_checked), unfolding(crate::specs::shown_by_format))]
 pub fn brief_by_own_clock(time: Time, format: &str, out: &mut BriefText) -> bool
-    ensures whole { IsTrue result → checked format.now ≡ Ok format.now }
-    ensures shown { IsTrue result → (zone : Zone) → shown_by_format zone false format.now time ≡ Some out.new.bytes }
+    ensures whole { IsTrue result → Spec.checked format.now ≡ Ok format.now }
+    ensures shown { IsTrue result → (zone : Zone) → Spec.shown_by_format zone false format.now time ≡ Some out.new.bytes }
 {
     out.clear();
-    let Some(shown) = own_shown(time) else {
-        return false;
-    };
-    if shown.seconds.is_none() {
-        return false;
+    match own_shown(time) {
+        Some(shown) if shown.seconds.is_some() => push_short(out, format, &shown),
+        _ => false,
     }
-    push_short(out, format, &shown)
 }
 
 /// What the format shows of a time, if it can show all that it asks for.
+#[tactic(auto, unfolding(crate::specs::shown_by_format))]
 fn shown_for(time: Time, format: DateFormat<'_>, local: bool, zone: TimeZone<'_>) -> Option<Shown>
-    ensures { option_map (λ shown. texts (shown_of shown) (pieces_or_none (format_bytes format.entry))) result
-        ≡ shown_by_format (plain_zone zone.entry) local (format_bytes format.entry) time }
+    ensures { option_map (λ shown. Spec.pieces_text (Spec.shown_of shown) (Spec.pieces_or_none (Spec.format_bytes format.entry))) result
+        ≡ Spec.shown_by_format (plain_zone zone.entry) local (Spec.format_bytes format.entry) time }
 {
-    match shown_at(time, local, zone) {
-        Some(shown) => {
-            if lacks_seconds(shown.seconds, format.text) {
-                return None;
-            }
-            Some(shown)
-        }
-        None => None,
+    let shown = shown_at(time, local, zone)?;
+    if shown.seconds.is_none() && asks_seconds(format.text) {
+        return None;
     }
-}
-
-/// Whether a format asks for seconds that Git does not know.
-fn lacks_seconds(seconds: Option<i64>, text: &str) -> bool
-    requires { is_format text.now ≡ true }
-    ensures { result ≡ (is_none seconds && asks_seconds (pieces_or_none text.now)) }
-{
-    seconds.is_none() && asks_seconds(text)
+    Some(shown)
 }

@@ -32,10 +32,8 @@
 
 mod approximate;
 mod clocks;
-mod date;
 mod error;
 mod fast;
-mod fault;
 mod fields;
 mod format;
 mod mode;
@@ -45,19 +43,17 @@ mod tokens;
 mod zones;
 
 pub use approximate::{Approximate, Expiry, approxidate, expiry_date};
-pub use date::{ReadDate, parse_date, parse_date_at};
 pub use error::DateError;
 pub use format::{
     BriefText, DateFormat, FormatFault, ShortText, ShowError, brief_by_own_clock, short_by_format,
     show_by_format, text_by_format, text_by_format_in,
 };
 pub use mode::{DateKind, DateMode, UnknownMode};
+pub use reader::{ReadDate, parse_date, parse_date_at};
 pub use show::{
     Age, DateText, OwnDateError, OwnDateText, age_at, show_date, show_date_at, show_git_time,
 };
-pub use zones::decimals::{decimal_of_offset, offset_of_decimal};
-pub use zones::places::{
-    MACHINE_ZONE, ZONE_FOLDER, zone_file, zone_folder, zone_of_text, zone_without_file,
+pub use zones::texts::{
+    MACHINE_ZONE, TableError, ZONE_FOLDER, decimal_of_offset, offset_of_decimal, zone_file,
+    zone_folder, zone_of_text, zone_offset, zone_table, zone_without_file,
 };
-pub use zones::tables::{TableError, zone_table};
-pub use zones::texts::zone_offset;

@@ -1,8 +1,6 @@
 //! The ways in which Git shows dates.
-ghost use Rattle.std.specs.Prelude.{◌≡◌, map, option_map};
-ghost use Rattle.std.specs.List.{find};
-ghost use Rattle.std.specs.Str.{bytes_eq};
-ghost use Rattle.git_date.specs.Show.Modes.{mode_named, mode_row, mode_rows, row_mode, kind_name};
+ghost use Rattle.std.specs.Prelude.{◌≡◌, map};
+ghost use Rattle.git_date.specs as Spec;
 
 use std::fmt;
 use std::str::FromStr;
@@ -79,14 +77,15 @@ const MODES: [(&str, DateKind, bool); 25] = [
 ];
 
 fn modes() -> &'static [(&'static str, DateKind, bool)]
-    ensures { map mode_row result.now ≡ mode_rows }
+    ensures { map Spec.mode_row result.now ≡ Spec.mode_rows }
 {
     &MODES
 }
 
 /// The mode beside the first of these names that a text is.
+#[tactic(auto, unfolding(crate::specs::mode_held))]
 fn mode_in(text: &str, rows: &[(&str, DateKind, bool)]) -> Option<DateMode>
-    ensures { result ≡ option_map row_mode (find (λ row. bytes_eq text.now row.0.now) rows.now) }
+    ensures { result ≡ Spec.mode_held text.now rows.now }
 {
     let row = rows.iter().find(|row| text == row.0)?;
     Some(DateMode {
@@ -95,15 +94,16 @@ fn mode_in(text: &str, rows: &[(&str, DateKind, bool)]) -> Option<DateMode>
     })
 }
 
+#[tactic(auto, using(crate::proofs::Text::Tables::mode_is))]
 fn mode_named(text: &str) -> Option<DateMode>
-    ensures { result ≡ mode_named text.now }
+    ensures { result ≡ Spec.mode_named text.now }
 {
     mode_in(text, modes())
 }
 
 impl DateKind {
     fn name(self) -> &'static str
-        ensures { result.now ≡ kind_name self }
+        ensures { result.now ≡ Spec.kind_name self }
     {
         match self {
             DateKind::Relative => "relative",
@@ -120,11 +120,9 @@ impl DateKind {
 }
 
 impl FromStr for DateMode {
-    ghost use Rattle.git_date.specs.Show.Modes.{NamesMode};
-
     type Err = UnknownMode;
 
-    ghost from_str_gives = { NamesMode };
+    ghost from_str_gives = { Spec.NamesMode };
 
     /// The mode of this name, in Git's letter case.
     fn from_str(text: &str) -> Result<DateMode, UnknownMode> {
@@ -134,9 +132,8 @@ impl FromStr for DateMode {
 
 impl fmt::Display for DateMode {
     ghost use Rattle.std.specs.Prelude.{Some};
-    ghost use Rattle.git_date.specs.Show.Modes.{mode_name};
 
-    ghost output = { λ mode. Some (mode_name mode) };
+    ghost output = { λ mode. Some (Spec.mode_name mode) };
 
     fn fmt<W: fmt::Write>(&self, f: &mut fmt::Formatter<W>) -> fmt::Result {
         f.write_str(self.kind.name())?;

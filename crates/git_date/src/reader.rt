@@ -1,24 +1,24 @@
 //! The reader: one token after the other, and what the whole text says.
-ghost use Rattle.std.specs.Prelude.{◌≡◌, ◌≤◌, length, IfOk, Option, ℕ};
-ghost use Rattle.git_date.specs.Tokens.Tokens.{tokens, token_of};
-ghost use Rattle.git_date.specs.Rules.Dates.{now_at};
-ghost use Rattle.git_date.specs.Exact.Fast.{has_few_digits};
-ghost use Rattle.git_date.specs.Exact.Reading.{sign_rule, rule, reading_of, read_on, place_in, error_of, at_said, fields_said, string_said, said_up_to, said_by, ended};
-ghost use Rattle.git_date.specs.Exact.Outcome.{SaidIsInstant};
-ghost use Rattle.git_date.specs.Rules.Views.{step_view};
+ghost use Rattle.std.specs.Prelude.{◌≡◌, ◌≤◌, length, IfOk, IfSome, Some, None, true, false};
+ghost use Rattle.git_date.specs as Spec;
+ghost use Rattle.jiff.specs.Words.{plain_zone};
 
 use crate::clocks::is_instant;
-use crate::error::DateError;
-use crate::fast::{printed_fields, printed_seconds};
-use crate::fault::Fault;
+use crate::error::{DateError, Fault};
+use crate::fast::{offset, printed_fields, two};
 use crate::fields::Fields;
 use crate::fields::dates::{Now, exact_seconds};
 use crate::fields::digits::{Stepped, digits_rule};
 use crate::fields::offsets::{at_text, offset_rule};
-use crate::tokens::strings::up_to_nul;
 use crate::tokens::words::{letters_rule, without_ending};
-use crate::tokens::{Token, is_end, next_token};
+use crate::tokens::{Token, is_end, next_token, up_to_nul};
+use crate::zones::{Asked, before_leap, found_offset};
+use gix_date::{Time, Zoned};
 use jiff::Timestamp;
+use jiff::tz::TimeZone;
+
+/// How many bytes `1660797906 +0800` has.
+const RAW_LEN: usize = 16;
 
 /// What was read so far.
 #[derive(Clone, Copy)]
@@ -51,7 +51,7 @@ impl Reading {
 
     /// What is read after a step, before which so many bytes were left.
     fn read_on(self, left: usize, next: Option<Fields>) -> Reading
-        ensures { result ≡ read_on self left next }
+        ensures { result ≡ Spec.read_on self left next }
     {
         match next {
             Some(fields) => Reading { fields, ..self },
@@ -63,35 +63,32 @@ impl Reading {
     }
 }
 
-/// The same step, with the ending of a number left out of the rest.
-fn ended<'a>(step: Stepped<'a>) -> Stepped<'a>
-    ensures value { step_view result ≡ ended (step_view step.entry) }
-    ensures shorter { (n : ℕ) → IfOk step.entry (λ found. length found.1.now ≤ n) → IfOk result (λ found. length found.1.now ≤ n) }
-{
-    let (fields, rest) = step?;
-    Ok((fields, without_ending(rest)))
-}
-
 /// What a sign says. Only directly before digits Git reads an offset.
-#[tactic(auto, unfolding(crate::specs::Exact::Reading::sign_rule))]
+#[tactic(auto, unfolding(crate::specs::sign_rule))]
 fn sign_rule<'a>(fields: Fields, behind: bool, text: &'a [u8]) -> Stepped<'a>
-    ensures value { step_view result ≡ sign_rule fields behind (tokens text.now) }
+    ensures value { Spec.step_view result ≡ Spec.sign_rule fields behind (Spec.tokens text.now) }
     ensures shorter { IfOk result (λ found. length found.1.now ≤ length text.now) }
 {
     match next_token(text) {
-        Some((Token::Digits(run), rest)) => ended(offset_rule(fields, behind, run, rest)),
+        Some((Token::Digits(run), rest)) => {
+            let (next, rest) = offset_rule(fields, behind, run, rest)?;
+            Ok((next, without_ending(rest)))
+        }
         _ => Ok((Some(fields), text)),
     }
 }
 
 /// What a token says, with what its rule takes of the text after it.
 fn rule<'a>(now: Now, fields: Fields, token: Token<'_>, text: &'a [u8]) -> Stepped<'a>
-    ensures value { step_view result ≡ rule now fields (token_of token.entry) (tokens text.now) }
+    ensures value { Spec.step_view result ≡ Spec.rule now fields (Spec.token_of token.entry) (Spec.tokens text.now) }
     ensures shorter { IfOk result (λ found. length found.1.now ≤ length text.now) }
 {
     match token {
         Token::Letters(run) => Ok((letters_rule(fields, run, text), text)),
-        Token::Digits(run) => ended(digits_rule(now, fields, run, text)),
+        Token::Digits(run) => {
+            let (next, rest) = digits_rule(now, fields, run, text)?;
+            Ok((next, without_ending(rest)))
+        }
         Token::Mark(b'+') => sign_rule(fields, false, text),
         Token::Mark(b'-') => sign_rule(fields, true, text),
         Token::Mark(_) => Ok((Some(fields), text)),
@@ -100,7 +97,7 @@ fn rule<'a>(now: Now, fields: Fields, token: Token<'_>, text: &'a [u8]) -> Stepp
 
 /// What the tokens of a text say, one after the other.
 fn reading_of(now: Now, text: &[u8]) -> Result<Reading, Fault>
-    ensures { result ≡ reading_of now text.now }
+    ensures { result ≡ Spec.reading_of now text.now }
 {
     let mut reading = Reading::NOTHING;
     let mut rest = text;
@@ -120,13 +117,13 @@ fn reading_of(now: Now, text: &[u8]) -> Result<Reading, Fault>
 
 /// The place in a text from which on so many bytes are left.
 pub(crate) fn place_in(text: &[u8], left: usize) -> usize
-    ensures { result ≡ place_in text.now left }
+    ensures { result ≡ Spec.place_in text.now left }
 {
     text.len().saturating_sub(left)
 }
 
 pub(crate) fn error_of(text: &[u8], fault: Fault) -> DateError
-    ensures { result ≡ error_of text.now fault }
+    ensures { result ≡ Spec.error_of text.now fault }
 {
     match fault {
         Fault::NumberTooLarge(left) => DateError::NumberTooLarge(place_in(text, left)),
@@ -136,30 +133,84 @@ pub(crate) fn error_of(text: &[u8], fault: Fault) -> DateError
     }
 }
 
-/// What `@` and its seconds say.
-#[tactic(auto, unfolding(crate::specs::Exact::Reading::at_said))]
-fn at_said(seconds: u64, minutes: i16) -> Result<Said, DateError>
-    ensures value { result ≡ at_said (seconds, minutes) }
-    ensures instant { IfOk result SaidIsInstant }
+/// An instant by its seconds, with minutes of offset.
+#[inline(always)]
+fn said_at(seconds: i64, minutes: i16) -> Said
+    ensures { result ≡ record { seconds = seconds; offset = Some minutes; epoch = true; leap = false; ignored = None } }
 {
-    let seconds = i64::try_from(seconds).ok().ok_or(DateError::Range)?;
-    if !is_instant(seconds) {
-        return Err(DateError::Range);
-    }
-    Ok(Said {
+    Said {
         seconds,
         offset: Some(minutes),
         epoch: true,
         leap: false,
         ignored: None,
-    })
+    }
+}
+
+/// What `@` and its seconds say.
+#[tactic(auto, unfolding(crate::specs::at_said))]
+fn at_said(seconds: u64, minutes: i16) -> Result<Said, DateError>
+    ensures value { result ≡ Spec.at_said (seconds, minutes) }
+    ensures instant { IfOk result Spec.SaidIsInstant }
+{
+    let seconds = i64::try_from(seconds).ok().ok_or(DateError::Range)?;
+    if !is_instant(seconds) {
+        return Err(DateError::Range);
+    }
+    Ok(said_at(seconds, minutes))
+}
+
+/// The seconds of ten digits, from 2001 on, in the years that Git knows.
+#[inline(always)]
+fn seconds(text: &[u8]) -> Option<u64>
+    ensures { IfSome result (Spec.WritesSeconds text.now) }
+{
+    match text {
+        [a, b, c, d, e, f, g, h, i, j] => {
+            let first = two(10, 40, *a, *b)?;
+            let second = two(0, 99, *c, *d)?;
+            let third = two(0, 99, *e, *f)?;
+            let fourth = two(0, 99, *g, *h)?;
+            let fifth = two(0, 99, *i, *j)?;
+            let front = 100 * (100 * u64::from(first) + u64::from(second)) + u64::from(third);
+            Some(100 * (100 * front + u64::from(fourth)) + u64::from(fifth))
+        }
+        _ => None,
+    }
+}
+
+/// The seconds and the minutes of offset of `1660797906 +0800`.
+#[inline(always)]
+fn raw(text: &[u8]) -> Option<(u64, i16)>
+    ensures { IfSome result (Spec.WritesRaw text.now) }
+{
+    if text.len() != RAW_LEN || text[10] != b' ' {
+        return None;
+    }
+    let seconds = seconds(&text[..10])?;
+    let offset = offset(&text[11..])?;
+    Some((seconds, offset))
+}
+
+/// What `1660797906 +0800` says, alone or after `@`.
+#[tactic(auto, using(gix_date::proofs::Text::Ints::held, crate::proofs::Exact::FastSeconds::at_text_is, crate::proofs::Exact::FastSeconds::raw_text_is))]
+fn printed_seconds(text: &[u8]) -> Option<Said>
+    ensures says { IfSome result (Spec.Says text.now) }
+    ensures instant { IfSome result Spec.SaidIsInstant }
+{
+    let text = match text {
+        [at, rest @ ..] if *at == b'@' => rest,
+        _ => text,
+    };
+    let (seconds, minutes) = raw(text)?;
+    Some(said_at(seconds as i64, minutes))
 }
 
 /// What the fields say that were read. Without a year, a month or a clock Git reads no date.
-#[tactic(auto, unfolding(crate::specs::Exact::Reading::fields_said))]
+#[tactic(auto, unfolding(crate::specs::fields_said))]
 fn fields_said(text: &[u8], read: Result<Reading, Fault>) -> Result<Said, DateError>
-    ensures value { result ≡ fields_said text.now read }
-    ensures instant { IfOk result SaidIsInstant }
+    ensures value { result ≡ Spec.fields_said text.now read }
+    ensures instant { IfOk result Spec.SaidIsInstant }
 {
     let reading = read.map_err(|fault| error_of(text, fault))?;
     let seconds = exact_seconds(reading.fields).ok_or(DateError::Unreadable)?;
@@ -177,7 +228,7 @@ fn fields_said(text: &[u8], read: Result<Reading, Fault>) -> Result<Said, DateEr
 
 /// Whether a text has fewer than three digits, and no colon.
 fn has_few_digits(text: &[u8]) -> bool
-    ensures { result ≡ has_few_digits text.now }
+    ensures { result ≡ Spec.has_few_digits text.now }
 {
     !text.contains(&b':') && text.iter().filter(|b| b.is_ascii_digit()).count() < 3
 }
@@ -190,8 +241,8 @@ fn third_is_digit(text: &[u8]) -> bool {
 /// What the tokens of a text say. Few digits say no clock, so that words are not read here.
 #[tactic(auto, using(crate::proofs::Exact::FewDigits::digits_are_few))]
 fn tokens_said(now: Timestamp, text: &[u8]) -> Result<Said, DateError>
-    ensures value { result ≡ fields_said text.now (reading_of (now_at now.nanosecond) text.now) }
-    ensures instant { IfOk result SaidIsInstant }
+    ensures value { result ≡ Spec.fields_said text.now (Spec.reading_of (Spec.now_at now.nanosecond) text.now) }
+    ensures instant { IfOk result Spec.SaidIsInstant }
 {
     if !third_is_digit(text) && has_few_digits(text) {
         return Err(DateError::Unreadable);
@@ -200,10 +251,10 @@ fn tokens_said(now: Timestamp, text: &[u8]) -> Result<Said, DateError>
 }
 
 /// What a text without NUL says. The instant is asked only where its tokens are read.
-#[tactic(auto, unfolding(crate::specs::Exact::Reading::string_said))]
+#[tactic(auto, unfolding(crate::specs::string_said))]
 fn string_said(now: Timestamp, text: &[u8]) -> Result<Said, DateError>
-    ensures value { result ≡ string_said (now_at now.nanosecond) text.now }
-    ensures instant { IfOk result SaidIsInstant }
+    ensures value { result ≡ Spec.string_said (Spec.now_at now.nanosecond) text.now }
+    ensures instant { IfOk result Spec.SaidIsInstant }
 {
     match at_text(text) {
         Some((seconds, minutes)) => at_said(seconds, minutes),
@@ -211,24 +262,11 @@ fn string_said(now: Timestamp, text: &[u8]) -> Result<Said, DateError>
     }
 }
 
-/// What is said, where what begins at this place is ignored too, if there is one.
-fn said_up_to(place: Option<usize>, said: Result<Said, DateError>) -> Result<Said, DateError>
-    requires { IfOk said SaidIsInstant }
-    ensures value { result ≡ said_up_to place said }
-    ensures instant { IfOk result SaidIsInstant }
-{
-    let said = said?;
-    Ok(Said {
-        ignored: said.ignored.or(place),
-        ..said
-    })
-}
-
 /// What a text says, up to its first NUL. What is printed has none, so only other texts are searched for it.
-#[tactic(auto, unfolding(crate::specs::Exact::Reading::said_by))]
+#[tactic(auto, unfolding(crate::specs::said_by))]
 pub(crate) fn said_by(now: Timestamp, text: &[u8]) -> Result<Said, DateError>
-    ensures value { result ≡ said_by (now_at now.nanosecond) text.now }
-    ensures instant { IfOk result SaidIsInstant }
+    ensures value { result ≡ Spec.said_by (Spec.now_at now.nanosecond) text.now }
+    ensures instant { IfOk result Spec.SaidIsInstant }
 {
     if let Some(said) = printed_seconds(text) {
         return Ok(said);
@@ -241,5 +279,108 @@ pub(crate) fn said_by(now: Timestamp, text: &[u8]) -> Result<Said, DateError>
         return fields_said(text, Ok(reading));
     }
     let (string, nul) = up_to_nul(text);
-    said_up_to(nul, string_said(now, string))
+    let said = string_said(now, string)?;
+    Ok(Said {
+        ignored: said.ignored.or(nul),
+        ..said
+    })
+}
+
+/// What [`parse_date`] reads.
+#[derive(Clone, Copy, Debug, PartialEq, Eq)]
+pub struct ReadDate {
+    /// The time: seconds since 1970-01-01 00:00:00 UTC, and the offset in seconds east of UTC, of whole minutes.
+    pub time: Time,
+    /// Whether the text names its offset, as `+0200`, `Z` or `EST`, so that each zone gives the same date. As in Git, `-0001` names
+    /// none, but after `@` it does.
+    pub has_offset: bool,
+    /// The place, in bytes, of the first word, number or sign of an offset that no rule used, so that a program can say so; or
+    /// else that of the first NUL, which ends the text.
+    ///
+    /// Not counted are other marks, the ending of a number as in `7th`, one `T` between digits, and, if no digit follows
+    /// directly, `ago`, `at`, `on`, `of`, `the`, `and`. A day of the week is used then, though it is not compared. So is what
+    /// another word overrules: of `2009-01-01 10:00 11:00 +0000` nothing is ignored.
+    pub ignored: Option<usize>,
+}
+
+/// Reads a date as Git's exact reader does. A text without an offset has that of the moment's zone.
+///
+/// That is the offset by which Git, in the first date of a process, finds the local time in the zone: it goes from UTC's offset to
+/// the one that the zone has there, until an offset shows the time. Of a time that the zone's clock skips it is the one that
+/// leads into daylight saving time. The moment itself matters only to a date such as `7/4/2009` after a clock, which is refused if it is more than ten days ahead.
+///
+/// The text is bytes, UTF-8 or not: each byte that is not ASCII is a mark, which is skipped. As in Git, whose dates are C strings,
+/// a NUL ends the text: [`ReadDate::ignored`] tells of it, also where nothing follows. [`DateError`] says when a text is
+/// refused. A place that the answer has is one where a character of the text begins. Takes no memory.
+pub fn parse_date(text: &[u8], now: Zoned<'_>) -> Result<ReadDate, DateError>
+    ensures date { Spec.DateOutcome now.entry text.now result }
+    ensures places { Spec.HasPlacesIn text.now result }
+{
+    parse_date_at(text, now.timestamp(), now.time_zone())
+}
+
+/// [`parse_date`] at an instant in a zone. The zone is asked only for a text without an offset, so most texts cost less so.
+#[tactic(auto, using(crate::proofs::Exact::Places::places))]
+pub fn parse_date_at(text: &[u8], now: Timestamp, zone: TimeZone<'_>) -> Result<ReadDate, DateError>
+    ensures date { Spec.DateOutcomeAt now.nanosecond (plain_zone zone.entry) text.now result }
+    ensures places { Spec.HasPlacesIn text.now result }
+{
+    date_said(said_by(now, text), zone)
+}
+
+/// The date that a text says, in the zone if it says no offset.
+fn date_said(said: Result<Said, DateError>, zone: TimeZone<'_>) -> Result<ReadDate, DateError>
+    requires { IfOk said Spec.SaidIsInstant }
+    ensures { result ≡ Spec.date_of (plain_zone zone.entry) said }
+{
+    let said = said?;
+    match said.offset {
+        Some(minutes) => date_at(said, i32::from(minutes)),
+        None => date_in_zone(said, zone),
+    }
+}
+
+/// The seconds since 1970, at an offset in minutes. It does not affect those of an epoch, as git-fast-import's manual says.
+fn instant_seconds(said: Said, minutes: i64) -> i64
+    requires said { Spec.SaidIsInstant said }
+    requires minutes { Spec.IsMinutes minutes }
+    ensures { result ≡ Spec.instant_seconds said minutes }
+{
+    if said.epoch {
+        said.seconds
+    } else {
+        said.seconds - 60 * minutes
+    }
+}
+
+/// The date at an offset in minutes. For seconds below 0 Git prints 2^64 more, so they are refused.
+#[tactic(auto, using(gix_date::proofs::Text::Ints::held, jiff_core::proofs::SignedLemmas::signed_arith), unfolding(crate::specs::date_at))]
+fn date_at(said: Said, minutes: i32) -> Result<ReadDate, DateError>
+    requires said { Spec.SaidIsInstant said }
+    requires minutes { Spec.IsMinutes minutes }
+    ensures { result ≡ Spec.date_at said minutes }
+{
+    let seconds = instant_seconds(said, i64::from(minutes));
+    if 0 <= seconds {
+        Ok(ReadDate {
+            time: Time::new(seconds, 60 * minutes),
+            has_offset: said.offset.is_some(),
+            ignored: said.ignored,
+        })
+    } else {
+        Err(DateError::Range)
+    }
+}
+
+/// The date at the zone's offset where its clock shows these seconds. Git keeps whole minutes of an offset.
+fn date_in_zone(said: Said, zone: TimeZone<'_>) -> Result<ReadDate, DateError>
+    requires { Spec.SaidIsInstant said }
+    ensures { result ≡ Spec.date_in said (Spec.said_in (Spec.states_of (plain_zone zone.entry)) said) }
+{
+    let asked = Asked {
+        clock: before_leap(said.leap, said.seconds),
+        daylight: None,
+    };
+    let offset = found_offset(zone, asked, 0).ok_or(DateError::Range)?;
+    date_at(said, offset / 60)
 }

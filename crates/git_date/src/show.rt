@@ -1,26 +1,22 @@
 //! Dates as Git shows them.
 ghost use Rattle.std.specs.Prelude.{◌≡◌, ◌<◌, ◌≤ℤ◌, pos, MatchResult, IfSome, option_map, unsigned_abs, false};
-ghost use Rattle.gix_date.specs.Fields.Zoned.{last_second, whole_seconds};
-ghost use Rattle.gix_date.specs.Header.Text.{hundred_hours};
 ghost use Rattle.std.specs.Int.Signed.{lt_z};
 ghost use Rattle.jiff.specs.Words.{plain_zone};
-ghost use Rattle.git_date.specs.Show.Ages.{age_answer};
-ghost use Rattle.git_date.specs.Show.Dates.{is_stored, shown, shown_by, shown_clock, shown_offset, relative_shown, human_shown};
-ghost use Rattle.git_date.specs.Show.Clocks.{moment_at, moment_of};
 ghost use Rattle.git_date.specs.declared.error.DateError.TheVariants.{Range};
+ghost use Rattle.git_date.specs as Spec;
+ghost use Rattle.gix_date.specs as GixDate;
 
 mod ages;
-pub(crate) mod clocks;
 mod dates;
 mod human;
 mod own;
 
+use crate::clocks::{is_written_offset, own_clock, zone_clock};
 use crate::error::DateError;
 use crate::mode::{DateKind, DateMode};
 pub use ages::Age;
 use ages::{age_between, relative_text};
 use arrayvec::ArrayString;
-use clocks::{is_written_offset, own_clock, zone_clock};
 use dates::{push_clock_text, raw_text, unix_text};
 use gix_date::clock::Clock;
 use gix_date::{Time, Zoned};
@@ -53,13 +49,14 @@ pub type DateText = ArrayString<MAX_DATE_LEN>;
 /// [`DateKind::Raw`] have a clock. Takes no memory.
 pub fn show_date(time: Time, mode: DateMode, now: Zoned<'_>) -> Result<DateText, DateError>
     ensures { MatchResult result
-        (λ text. shown (moment_of now.entry) mode time ≡ Some text.bytes)
-        (λ e. (e ≡ Range) × (shown (moment_of now.entry) mode time ≡ None)) }
+        (λ text. Spec.shown (Spec.moment_of now.entry) mode time ≡ Some text.bytes)
+        (λ e. (e ≡ Range) × (Spec.shown (Spec.moment_of now.entry) mode time ≡ None)) }
 {
     show_date_at(time, mode, now.timestamp(), now.time_zone())
 }
 
 /// [`show_date`] at an instant in a zone, without the clock of both.
+#[tactic(auto, unfolding(crate::specs::shown))]
 pub fn show_date_at(
     time: Time,
     mode: DateMode,
@@ -67,19 +64,22 @@ pub fn show_date_at(
     zone: TimeZone<'_>,
 ) -> Result<DateText, DateError>
     ensures { MatchResult result
-        (λ text. shown (moment_at now.nanosecond (plain_zone zone.entry)) mode time ≡ Some text.bytes)
-        (λ e. (e ≡ Range) × (shown (moment_at now.nanosecond (plain_zone zone.entry)) mode time ≡ None)) }
+        (λ text. Spec.shown (Spec.moment_at now.nanosecond (plain_zone zone.entry)) mode time ≡ Some text.bytes)
+        (λ e. (e ≡ Range) × (Spec.shown (Spec.moment_at now.nanosecond (plain_zone zone.entry)) mode time ≡ None)) }
 {
-    shown(time, mode, now, zone).ok_or(DateError::Range)
+    if time.seconds < 0 {
+        return Err(DateError::Range);
+    }
+    shown_by(time, mode, now, zone).ok_or(DateError::Range)
 }
 
 /// How long before a moment a time was, as [`DateKind::Relative`] shows it: for a program that says it in another language.
 /// `None` is a time after the moment, which Git shows as `in the future`.
 ///
 /// [`DateError::Range`] for a time or a moment whose whole seconds are before 1970. Takes no memory.
-#[tactic(auto, unfolding(crate::specs::Show::Ages::age_answer))]
+#[tactic(auto, unfolding(crate::specs::age_answer))]
 pub fn age_at(time: Time, now: Timestamp) -> Result<Option<Age>, DateError>
-    ensures { result ≡ age_answer (whole_seconds now.nanosecond) time.seconds }
+    ensures { result ≡ Spec.age_answer (GixDate.whole_seconds now.nanosecond) time.seconds }
 {
     let second = now.as_second();
     if time.seconds < 0 || second < 0 {
@@ -88,20 +88,10 @@ pub fn age_at(time: Time, now: Timestamp) -> Result<Option<Age>, DateError>
     Ok(age_between(second, time.seconds))
 }
 
-#[tactic(auto, unfolding(crate::specs::Show::Dates::shown))]
-fn shown(time: Time, mode: DateMode, now: Timestamp, zone: TimeZone<'_>) -> Option<DateText>
-    ensures { option_map (λ text. text.bytes) result ≡ shown (moment_at now.nanosecond (plain_zone zone.entry)) mode time }
-{
-    if time.seconds < 0 {
-        return None;
-    }
-    shown_by(time, mode, now, zone)
-}
-
 /// The clock by which a time is shown. Inlined, so that a zone that is not looked at is not copied.
 #[inline(always)]
 fn shown_clock(time: Time, local: bool, now: Timestamp, zone: TimeZone<'_>) -> Option<Clock>
-    ensures { result ≡ shown_clock (moment_at now.nanosecond (plain_zone zone.entry)) local time }
+    ensures { result ≡ Spec.shown_clock (Spec.moment_at now.nanosecond (plain_zone zone.entry)) local time }
 {
     if local {
         zone_clock(time.seconds, zone)
@@ -111,10 +101,10 @@ fn shown_clock(time: Time, local: bool, now: Timestamp, zone: TimeZone<'_>) -> O
 }
 
 /// The offset that is shown without a clock.
-#[tactic(auto, unfolding(crate::specs::Show::Dates::shown_offset))]
+#[tactic(auto, unfolding(crate::specs::shown_offset))]
 fn shown_offset(time: Time, local: bool, now: Timestamp, zone: TimeZone<'_>) -> Option<i32>
-    ensures value { result ≡ shown_offset (moment_at now.nanosecond (plain_zone zone.entry)) local time }
-    ensures short { IfSome result (λ offset. unsigned_abs offset < hundred_hours) }
+    ensures value { result ≡ Spec.shown_offset (Spec.moment_at now.nanosecond (plain_zone zone.entry)) local time }
+    ensures short { IfSome result (λ offset. unsigned_abs offset < GixDate.hundred_hours) }
 {
     if local {
         return Some(zone_clock(time.seconds, zone)?.offset());
@@ -123,11 +113,11 @@ fn shown_offset(time: Time, local: bool, now: Timestamp, zone: TimeZone<'_>) -> 
 }
 
 /// How long ago a time was. `None` at a moment before 1970, where Git's ages wrap.
-#[tactic(auto, unfolding(crate::specs::Show::Dates::relative_shown))]
+#[tactic(auto, unfolding(crate::specs::relative_shown))]
 fn relative_shown(now: i64, seconds: i64) -> Option<DateText>
-    requires now { now ≤ℤ last_second }
+    requires now { now ≤ℤ GixDate.last_second }
     requires seconds { lt_z seconds (pos 0) ≡ false }
-    ensures { option_map (λ text. text.bytes) result ≡ relative_shown now seconds }
+    ensures { option_map (λ text. text.bytes) result ≡ Spec.relative_shown now seconds }
 {
     if now < 0 {
         return None;
@@ -135,23 +125,11 @@ fn relative_shown(now: i64, seconds: i64) -> Option<DateText>
     Some(relative_text(now, seconds))
 }
 
-/// A human date, by the clock of the time and that of the moment.
-fn human_shown(time: Time, local: bool, now: Timestamp, zone: TimeZone<'_>) -> Option<DateText>
-    requires { lt_z time.seconds (pos 0) ≡ false }
-    ensures { option_map (λ text. text.bytes) result ≡ human_shown (moment_at now.nanosecond (plain_zone zone.entry)) local time }
-{
-    let second = now.as_second();
-    let shown = shown_clock(time, local, now, zone)?;
-    let today = zone_clock(second, zone)?;
-    let age = relative_text(second, time.seconds);
-    Some(human_text(local, shown, today, age))
-}
-
 /// What each kind shows of a time from 1970 on.
 fn shown_by(time: Time, mode: DateMode, now: Timestamp, zone: TimeZone<'_>) -> Option<DateText>
     requires { lt_z time.seconds (pos 0) ≡ false }
     ensures { option_map (λ text. text.bytes) result
-        ≡ shown_by mode.kind (moment_at now.nanosecond (plain_zone zone.entry)) mode.local time }
+        ≡ Spec.shown_by mode.kind (Spec.moment_at now.nanosecond (plain_zone zone.entry)) mode.local time }
 {
     match mode.kind {
         DateKind::Unix => Some(unix_text(time.seconds)),
@@ -163,15 +141,21 @@ fn shown_by(time: Time, mode: DateMode, now: Timestamp, zone: TimeZone<'_>) -> O
 /// What the kinds show that do not show a time as it is stored. They need more room, which costs the others a third.
 #[inline(never)]
 fn shown_apart(time: Time, mode: DateMode, now: Timestamp, zone: TimeZone<'_>) -> Option<DateText>
-    requires kind { is_stored mode.kind ≡ false }
+    requires kind { Spec.is_stored mode.kind ≡ false }
     requires seconds { lt_z time.seconds (pos 0) ≡ false }
     ensures { option_map (λ text. text.bytes) result
-        ≡ shown_by mode.kind (moment_at now.nanosecond (plain_zone zone.entry)) mode.local time }
+        ≡ Spec.shown_by mode.kind (Spec.moment_at now.nanosecond (plain_zone zone.entry)) mode.local time }
 {
     let local = mode.local;
     match mode.kind {
         DateKind::Relative => relative_shown(now.as_second(), time.seconds),
-        DateKind::Human => human_shown(time, local, now, zone),
+        DateKind::Human => {
+            let second = now.as_second();
+            let shown = shown_clock(time, local, now, zone)?;
+            let today = zone_clock(second, zone)?;
+            let age = relative_text(second, time.seconds);
+            Some(human_text(local, shown, today, age))
+        }
         kind => {
             let mut text = ArrayString::new();
             push_clock_text(&mut text, kind, local, shown_clock(time, local, now, zone)?);

@@ -1,13 +1,10 @@
 //! What a zone says of an instant, and Git's search for the instant at which its clock shows a time.
-ghost use Rattle.std.specs.Prelude.{◌≡◌, ◌-ℤ◌, ◌^◌, pos, neg_ℤ, true, IfSome};
+ghost use Rattle.std.specs.Prelude.{◌≡◌, ◌+ℤ◌, ◌-ℤ◌, ◌^◌, pos, neg_ℤ, true, IfSome, unwrap_or};
 ghost use Rattle.jiff_core.specs.Calendar.{IsBetween, IsWithin};
 ghost use Rattle.jiff.specs.Words.{plain_zone, IsOffsetSeconds};
-ghost use Rattle.gix_date.specs.Fields.Zoned.{is_instant};
-ghost use Rattle.git_date.specs.Exact.Zones.{states_of, same_flag, flagged, flagged_at, nearest, flag_steps, hour_off, by_flag, first_trail, moved, stops, is_back, before_leap, found_offset};
+ghost use Rattle.git_date.specs as Spec;
+ghost use Rattle.gix_date.specs as GixDate;
 
-pub(crate) mod decimals;
-pub(crate) mod places;
-pub(crate) mod tables;
 pub(crate) mod texts;
 
 use crate::clocks::is_instant;
@@ -53,7 +50,7 @@ const FLAG_STEPS: u16 = 381;
 
 /// What the zone says of an instant. `None` if the seconds are those of none.
 pub(crate) fn state_at(zone: TimeZone<'_>, seconds: i64) -> Option<ZoneState>
-    ensures value { result ≡ states_of (plain_zone zone.entry) seconds }
+    ensures value { result ≡ Spec.states_of (plain_zone zone.entry) seconds }
     ensures near { IfSome result (λ there. IsOffsetSeconds there.offset) }
 {
     if !is_instant(seconds) {
@@ -75,36 +72,52 @@ pub(crate) fn state_at(zone: TimeZone<'_>, seconds: i64) -> Option<ZoneState>
     })
 }
 
+/// So many seconds later.
+fn later(seconds: i64, by: i64) -> i64
+    requires seconds { IsWithin (10 ^ 16) seconds }
+    requires by { IsWithin (10 ^ 16) by }
+    ensures { result ≡ seconds +ℤ by }
+{
+    seconds + by
+}
+
+/// So many seconds earlier.
+pub(crate) fn earlier(seconds: i64, by: i64) -> i64
+    requires seconds { IsWithin (10 ^ 16) seconds }
+    requires by { IsWithin (10 ^ 16) by }
+    ensures { result ≡ seconds -ℤ by }
+{
+    seconds - by
+}
+
 /// The zone's offset, if it has this flag at an instant.
 fn flagged(zone: TimeZone<'_>, flag: bool, seconds: i64) -> Option<i32>
-    ensures value { result ≡ flagged flag (states_of (plain_zone zone.entry) seconds) }
+    ensures value { result ≡ Spec.flagged flag (Spec.states_of (plain_zone zone.entry) seconds) }
     ensures near { IfSome result IsOffsetSeconds }
 {
     let there = state_at(zone, seconds)?;
-    if there.daylight == flag {
-        Some(there.offset)
-    } else {
-        None
-    }
+    (there.daylight == flag).then_some(there.offset)
 }
 
 /// The offset of a time with this flag at a distance from an instant. That before the instant comes first.
+#[tactic(auto, using(gix_date::proofs::Text::Ints::held, crate::proofs::Exact::Searches::instant_within, crate::proofs::Exact::Searches::found_before, crate::proofs::Exact::Searches::found_after))]
 fn flagged_at(zone: TimeZone<'_>, flag: bool, instant: i64, distance: i64) -> Option<i32>
-    requires instant { is_instant instant ≡ true }
+    requires instant { GixDate.is_instant instant ≡ true }
     requires distance { IsWithin (10 ^ 16) distance }
-    ensures value { result ≡ flagged_at (states_of (plain_zone zone.entry)) flag instant distance }
+    ensures value { result ≡ Spec.flagged_at (Spec.states_of (plain_zone zone.entry)) flag instant distance }
     ensures near { IfSome result IsOffsetSeconds }
 {
-    if let Some(offset) = flagged(zone, flag, instant - distance) {
-        return Some(offset);
+    let before = flagged(zone, flag, earlier(instant, distance));
+    if before.is_some() {
+        return before;
     }
-    flagged(zone, flag, instant + distance)
+    flagged(zone, flag, later(instant, distance))
 }
 
 /// The offset of the nearest time with this flag.
 fn nearest(zone: TimeZone<'_>, flag: bool, instant: i64) -> Option<i32>
-    requires { is_instant instant ≡ true }
-    ensures value { result ≡ nearest flag_steps (states_of (plain_zone zone.entry)) flag instant }
+    requires { GixDate.is_instant instant ≡ true }
+    ensures value { result ≡ Spec.nearest Spec.flag_steps (Spec.states_of (plain_zone zone.entry)) flag instant }
     ensures near { IfSome result IsOffsetSeconds }
 {
     'steps: for steps in 1..=FLAG_STEPS {
@@ -118,16 +131,28 @@ fn nearest(zone: TimeZone<'_>, flag: bool, instant: i64) -> Option<i32>
 /// An offset an hour off, where no time near has this flag.
 fn hour_off(flag: bool, offset: i32) -> i32
     requires { IsOffsetSeconds offset }
-    ensures { result ≡ hour_off flag offset }
+    ensures { result ≡ Spec.hour_off flag offset }
 {
     if flag { offset + 3600 } else { offset - 3600 }
 }
 
+/// The offset by which a clock is read where the zone shows it with another flag than is asked.
+#[tactic(auto, using(gix_date::proofs::Text::Ints::held, crate::proofs::Exact::Searches::clock_within))]
+fn by_other_flag(zone: TimeZone<'_>, flag: bool, clock: i64, offset: i32) -> i32
+    requires clock { GixDate.is_instant (clock -ℤ offset) ≡ true }
+    requires near { IsOffsetSeconds offset }
+    ensures { result ≡ unwrap_or (Spec.nearest Spec.flag_steps (Spec.states_of (plain_zone zone.entry)) flag (clock -ℤ offset)) (Spec.hour_off flag offset) }
+{
+    let instant = earlier(clock, i64::from(offset));
+    nearest(zone, flag, instant).unwrap_or(hour_off(flag, offset))
+}
+
 /// The offset by which a clock is read that the zone shows there, perhaps with another flag than is asked.
+#[tactic(auto, using(gix_date::proofs::Text::Ints::held, crate::proofs::Exact::Searches::other_told))]
 fn by_flag(zone: TimeZone<'_>, asked: Asked, there: ZoneState) -> i32
-    requires clock { is_instant (asked.clock -ℤ there.offset) ≡ true }
+    requires clock { GixDate.is_instant (asked.clock -ℤ there.offset) ≡ true }
     requires near { IsOffsetSeconds there.offset }
-    ensures { result ≡ by_flag (states_of (plain_zone zone.entry)) asked asked.daylight there }
+    ensures { result ≡ Spec.by_flag (Spec.states_of (plain_zone zone.entry)) asked asked.daylight there }
 {
     let Some(flag) = asked.daylight else {
         return there.offset;
@@ -135,14 +160,13 @@ fn by_flag(zone: TimeZone<'_>, asked: Asked, there: ZoneState) -> i32
     if flag == there.daylight {
         return there.offset;
     }
-    let instant = asked.clock - i64::from(there.offset);
-    nearest(zone, flag, instant).unwrap_or(hour_off(flag, there.offset))
+    by_other_flag(zone, flag, asked.clock, there.offset)
 }
 
 impl Trail {
     /// At the first offset of a search.
     fn at(guess: i32) -> Trail
-        ensures { result ≡ first_trail guess }
+        ensures { result ≡ Spec.first_trail guess }
     {
         Trail {
             here: guess,
@@ -153,7 +177,7 @@ impl Trail {
 
     /// At the offset to which the zone leads from here.
     fn moved(self, there: ZoneState) -> Trail
-        ensures { result ≡ moved self there }
+        ensures { result ≡ Spec.moved self there }
     {
         Trail {
             here: there.offset,
@@ -167,7 +191,7 @@ impl Trail {
 
     /// Whether the search goes to and fro, and stops here.
     fn is_back(self, flag: Option<bool>, here: bool) -> bool
-        ensures { result ≡ is_back self flag here }
+        ensures { result ≡ Spec.is_back self flag here }
     {
         self.before.is_some_and(|before| self.here == before) && stops(flag, self.last, here)
     }
@@ -175,7 +199,7 @@ impl Trail {
 
 /// Whether a search that goes to and fro stops where the zone has this flag.
 fn stops(flag: Option<bool>, last: Option<ZoneState>, here: bool) -> bool
-    ensures { result ≡ stops flag last here }
+    ensures { result ≡ Spec.stops flag last here }
 {
     match (flag, last) {
         (Some(flag), _) => flag != here,
@@ -187,17 +211,17 @@ fn stops(flag: Option<bool>, last: Option<ZoneState>, here: bool) -> bool
 /// Second 60 is the second after 59, which is looked for.
 pub(crate) fn before_leap(is_leap: bool, clock: i64) -> i64
     requires { IsBetween (neg_ℤ (pos (10 ^ 16))) (pos (10 ^ 16)) clock }
-    ensures { result ≡ before_leap is_leap clock }
+    ensures { result ≡ Spec.before_leap is_leap clock }
 {
     if is_leap { clock - 1 } else { clock }
 }
 
 /// Git's search: the offset by which a clock is read, from the one that the last search found. `None` where it finds none in six
 /// moves, or leaves the instants.
-#[tactic(auto, unfolding(crate::specs::Exact::Zones::found_offset))]
+#[tactic(auto, unfolding(crate::specs::found_offset))]
 pub(crate) fn found_offset(zone: TimeZone<'_>, asked: Asked, guess: i32) -> Option<i32>
-    ensures value { result ≡ found_offset (states_of (plain_zone zone.entry)) asked guess }
-    ensures clock { IfSome result (λ offset. is_instant asked.clock ≡ true) }
+    ensures value { result ≡ Spec.found_offset (Spec.states_of (plain_zone zone.entry)) asked guess }
+    ensures clock { IfSome result (λ offset. GixDate.is_instant asked.clock ≡ true) }
 {
     if !is_instant(asked.clock) {
         return None;

@@ -2,5 +2,4 @@
 pub mod Guesses
 pub mod EveryZone
 pub mod Understood
-pub mod WholePromise
 pub mod FormatModes

@@ -6,7 +6,7 @@ use Rattle.gix_date.specs.Families.Order.{Family, AtText, Rfc2822, Iso8601, Iso8
 use Rattle.gix_date.specs.Families.Raw.{OffsetRule}
 use Rattle.gix_date.specs.declared.time.Time.{Time}
 use Rattle.git_date.specs.Exact.Outcome.{DateOutcome}
-use Rattle.git_date.specs.declared.date.ReadDate.{ReadDate}
+use Rattle.git_date.specs.declared.reader.ReadDate.{ReadDate}
 
 -- the family's texts are seconds since 1970
 abbrev pub has_seconds : Family → Bool

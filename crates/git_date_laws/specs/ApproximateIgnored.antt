@@ -5,7 +5,7 @@ use Rattle.jiff.specs.declared.zoned.Zoned.{Zoned}
 use Rattle.gix_date.specs.Relative.Steps.{zone_of}
 use Rattle.git_date.specs.Approximate.Reading.{ApproximateOutcome}
 use Rattle.git_date.specs.Approximate.Drafts.{first_draft, settle}
-use Rattle.git_date.specs.Approximate.Rules.{are_digits_next, letters_rule, is_padded, digits_rule}
+use Rattle.git_date.specs.Approximate.Rules.{are_digits_next, approximate_letters_rule, is_padded, approximate_digits_rule}
 use Rattle.git_date.specs.Approximate.Words.{meaning_of}
 use Rattle.git_date.specs.Approximate.Zones.{shown_in, filled_time}
 use Rattle.git_date.specs.Exact.Zones.{States, states_of}
@@ -18,7 +18,7 @@ use Rattle.git_date.specs.Exact.Reading.{place_in}
 use Rattle.git_date.specs.Tokens.Strings.{before_nul, nul_place}
 use Rattle.git_date.specs.Tokens.Tokens.{Token, Letters, Digits, Mark, tokens, bytes_left}
 use Rattle.git_date.specs.Types.Names.{Now, Today, Draft, Fields, Meaning, Number, ZoneClock}
-use Rattle.git_date.specs.declared.approximate.answer.Approximate.{Approximate}
+use Rattle.git_date.specs.declared.approximate.Approximate.{Approximate}
 use Rattle.git_date.specs.declared.error.DateError.TheVariants.{Unreadable}
 use Rattle.git_date.specs.Rules.Words.{is_filler}
 use Rattle.git_date_laws.specs.Ignored.{takes_group, after_ending}
@@ -75,10 +75,10 @@ pub data Drafted (zone : States) (today : Today) : Draft → List Token → List
   AtMark : (d last : Draft) (byte : ℕ) (more : List Token) (unused : List ℕ) → Drafted zone today d more unused last
       → Drafted zone today d (Mark byte ∷ more) unused last
   AtLetters : (d next last : Draft) (run : List ℕ) (more : List Token) (unused : List ℕ)
-      → letters_rule zone today.shown.clock d run more ≡ Ok next → Drafted zone today next more unused last
+      → approximate_letters_rule zone today.shown.clock d run more ≡ Ok next → Drafted zone today next more unused last
       → Drafted zone today d (Letters run ∷ more) (unused_letters d run more ++ unused) last
   AtDigits : (d next last : Draft) (run : List ℕ) (more after : List Token) (unused : List ℕ)
-      → digits_rule today.now d run more ≡ Ok (next, after) → Drafted zone today next (after_ending after) unused last
+      → approximate_digits_rule today.now d run more ≡ Ok (next, after) → Drafted zone today next (after_ending after) unused last
       → Drafted zone today d (Digits run ∷ more) (unused_digits today.now d run more ++ unused) last
 
 -- the earliest of places, and of one more: there the most bytes are left

@@ -13,8 +13,8 @@ use Rattle.git_date.specs.Rules.Dates.{now_of}
 use Rattle.git_date.specs.Tokens.Numbers.{max_small}
 use Rattle.git_date.specs.Exact.Outcome.{DateOutcome}
 use Rattle.git_date.specs.Tokens.Strings.{nul_place}
-use Rattle.git_date.specs.declared.approximate.answer.Approximate.{Approximate}
-use Rattle.git_date.specs.declared.date.ReadDate.{ReadDate}
+use Rattle.git_date.specs.declared.approximate.Approximate.{Approximate}
+use Rattle.git_date.specs.declared.reader.ReadDate.{ReadDate}
 use Rattle.git_date.specs.declared.error.DateError.{DateError}
 
 -- where the exact reader reads a text, the approximate one has its answer
@@ -51,7 +51,7 @@ pub record IsReachedThere (moment : Zoned) (back : ℕ) : Type 0 where
 
 -- In every zone `n UNIT ago` is exactly that many seconds before now, at the zone's offset there, and nothing is ignored but
 -- what begins at a NUL.
-abbrev pub IsBackInEveryZone : Zoned → List ℕ → Type 0
+unfoldable pub IsBackInEveryZone : Zoned → List ℕ → Type 0
 IsBackInEveryZone moment text =
     (count size : ℕ) (result : Result Approximate DateError) → CountsBack text count size → IsReachedThere moment (count * size)
     → ApproximateOutcome moment text result

@@ -13,8 +13,8 @@ use Rattle.git_date.specs.Show.Clocks.{Moment, own_clock}
 use Rattle.git_date.specs.Show.Dates.{raw_text, shown}
 use Rattle.git_date.specs.declared.mode.DateKind.{DateKind}
 use Rattle.git_date.specs.declared.mode.DateKind.TheVariants.{Iso8601, Short}
-use Rattle.git_date.specs.declared.format.fault.FormatFault.{FormatFault}
-use Rattle.git_date.specs.declared.format.fault.FormatFault.TheVariants.{FlagRefused, UnknownDirective, WidthTooLarge}
+use Rattle.git_date.specs.declared.format.error.FormatFault.{FormatFault}
+use Rattle.git_date.specs.declared.format.error.FormatFault.TheVariants.{FlagRefused, UnknownDirective, WidthTooLarge}
 use Rattle.git_date.specs.Formats.Format.{shown_by_format}
 use Rattle.git_date.specs.Formats.Pieces.{checked, is_format, is_percent}
 use Rattle.git_date.specs.Formats.Shown.{shown_at}
@@ -31,7 +31,7 @@ pub record IsOfKnownYear (t : Time) : Type 0 where
   pub known : (nat_le first_year clock.date.year && nat_le clock.date.year last_year) ≡ true
 
 -- by `%s` it shows the time's seconds, and by `%s %z` the time as Git stores it
-abbrev pub ShowsStored : TimeZone → Time → Type 0
+unfoldable pub ShowsStored : TimeZone → Time → Type 0
 ShowsStored zone t =
     IsOfKnownYear t
     → (shown_by_format zone false (codes "%s") t ≡ Some (decimal_text t.seconds))
@@ -43,7 +43,7 @@ ShowsAsMode now pattern kind t =
     (local : Bool) → shown_by_format now.zone local pattern t ≡ shown now (record { kind = kind; local = local }) t
 
 -- so do `%Y-%m-%d %H:%M:%S %z` as `iso8601`, and `%F` as `short`, at every moment in the zone
-abbrev pub ShowsModes : TimeZone → Time → Type 0
+unfoldable pub ShowsModes : TimeZone → Time → Type 0
 ShowsModes zone t =
     (seconds : ℤ) →
     ShowsAsMode (record { zone = zone; seconds = seconds }) iso8601_pattern Iso8601 t
@@ -60,13 +60,13 @@ moved by (UnknownDirective place) = UnknownDirective (by + place)
 moved by (WidthTooLarge place) = WidthTooLarge (by + place)
 
 -- After a format without fault a text is checked as it is alone: with that it is a format, or its fault stands so much later.
-abbrev pub ChecksJoined : List ℕ → List ℕ → Type 0
+unfoldable pub ChecksJoined : List ℕ → List ℕ → Type 0
 ChecksJoined first second =
     is_format first ≡ true
     → checked (first ++ second) ≡ result_map_both (λ whole. first ++ whole) (moved (length first)) (checked second)
 
 -- two formats without fault, joined, show both texts joined, and nothing where one of them shows nothing
-abbrev pub ShowsJoined : TimeZone → Bool → List ℕ → List ℕ → Time → Type 0
+unfoldable pub ShowsJoined : TimeZone → Bool → List ℕ → List ℕ → Time → Type 0
 ShowsJoined zone local first second t =
     is_format first ≡ true → is_format second ≡ true
     → shown_by_format zone local (first ++ second) t ≡ joined (shown_by_format zone local first t) (shown_by_format zone local second t)

@@ -12,7 +12,7 @@ use Rattle.git_date.specs.Exact.Outcome.{DateOutcome, read_at}
 use Rattle.git_date_laws.specs.Texts.Printed.{IsGitTime}
 use Rattle.git_date.specs.Show.Dates.{shown}
 use Rattle.git_date.specs.Show.Clocks.{Moment, time_at}
-use Rattle.git_date.specs.declared.date.ReadDate.{ReadDate}
+use Rattle.git_date.specs.declared.reader.ReadDate.{ReadDate}
 use Rattle.git_date.specs.declared.mode.DateKind.{DateKind}
 use Rattle.git_date.specs.declared.mode.DateKind.TheVariants.{Iso8601Strict, Iso8601, Rfc2822, Default, Raw, Unix}
 use Rattle.git_date_laws.specs.ApproximateLaws.{HasExactAnswer, HasAnswerInAnyCase, IsNowIfFound}

@@ -23,7 +23,7 @@ use Rattle.git_date.specs.Tokens.Strings.{before_nul, nul_place}
 use Rattle.git_date.specs.Tokens.Tokens.{Token, Letters, Digits, Mark, tokens, bytes_left}
 use Rattle.git_date.specs.Types.Names.{Now, Dated, Fields, Group, Said}
 use Rattle.git_date.specs.Rules.Words.{is_any_of, is_filler, letters_rule}
-use Rattle.git_date.specs.declared.date.ReadDate.{ReadDate}
+use Rattle.git_date.specs.declared.reader.ReadDate.{ReadDate}
 
 -- a known word: a month, a day of the week, a zone, `PM`, `AM`, or a filler
 abbrev pub is_known : List ℕ → Bool

@@ -20,7 +20,7 @@ use Rattle.git_date.specs.Exact.Reading.{said_up_to, said_by}
 use Rattle.git_date.specs.Exact.Outcome.{DateOutcome, DateOutcomeAt, said_offset}
 use Rattle.git_date.specs.Exact.Zones.{States, states_of, state_by, is_same, found_offset}
 use Rattle.git_date.specs.Types.Names.{ZoneState}
-use Rattle.git_date.specs.declared.date.ReadDate.{ReadDate}
+use Rattle.git_date.specs.declared.reader.ReadDate.{ReadDate}
 use Rattle.git_date.specs.declared.error.DateError.{DateError}
 use Rattle.git_date.specs.declared.mode.DateKind.TheVariants.{Raw}
 

@@ -3,9 +3,8 @@
 
 ghost use Rattle.std.specs.Prelude.{◌≡◌};
 ghost use Rattle.jiff.specs.Words.{plain_zone};
-ghost use Rattle.git_date.specs.Tokens.Tokens.{tokens as tokens_of, texts};
-ghost use Rattle.git_date_laws.specs.Ignored.{IgnoresUnused};
-ghost use Rattle.git_date_laws.specs.Laws.{AreApart, IgnoresZone, IsOfEveryZone, IsClockRead, IgnoresLines, IgnoresInstant, IsWithoutDayMonth};
+ghost use Rattle.git_date_laws.specs as Spec;
+ghost use Rattle.git_date.specs as GitDate;
 
 mod approximate;
 mod formats;
@@ -24,15 +23,15 @@ pub use readers::agree;
 /// The texts of the tokens are the text, and no two neighbours are both letters or both digits.
 #[tactic(auto, using(git_date::proofs::Text::TokenRuns::texts_are, crate::proofs::Alike::Apart::apart))]
 pub fn tokens(text: &[u8])
-    ensures texts { texts (tokens_of text.now) ≡ text.now }
-    ensures apart { AreApart (tokens_of text.now) }
+    ensures texts { GitDate.texts (GitDate.tokens text.now) ≡ text.now }
+    ensures apart { Spec.AreApart (GitDate.tokens text.now) }
 {}
 
 /// A date that says its offset has the same answer in every zone. [`git_date::ReadDate::has_offset`] tells of such a date.
 #[tactic(auto, using(crate::proofs::Back::Zones::zones, crate::proofs::Back::Zones::every_zone))]
 pub fn written_offset(text: &[u8], now: &Zoned<'_>)
-    ensures said { IgnoresZone now.now text.now }
-    ensures told { IsOfEveryZone now.now text.now }
+    ensures said { Spec.IgnoresZone now.now text.now }
+    ensures told { Spec.IsOfEveryZone now.now text.now }
 {}
 
 /// Where a zone has at most two offsets within 26 hours of a clock, as each zone of a rule has, [`git_date::parse_date`] reads the
@@ -40,7 +39,7 @@ pub fn written_offset(text: &[u8], now: &Zoned<'_>)
 /// Year. A clock that is shown once is found again by what it shows, and whether that is daylight saving time.
 #[tactic(auto, using(crate::proofs::Back::ClockRead::clocks_read))]
 pub fn clock_read(zone: TimeZone<'_>)
-    ensures { IsClockRead (plain_zone zone.entry) }
+    ensures { Spec.IsClockRead (plain_zone zone.entry) }
 {}
 
 /// What is ignored of a date is the first word, number or sign of an offset that is not used, or else a NUL. A word is used if it is
@@ -49,20 +48,20 @@ pub fn clock_read(zone: TimeZone<'_>)
 /// number, a `T` between digits and what follows a line feed are passed over. After `@` nothing is ignored but a NUL.
 #[tactic(auto, using(crate::proofs::Ignored::Unused::ignores_unused))]
 pub fn ignored_is_unused(text: &[u8], now: &Zoned<'_>)
-    ensures { IgnoresUnused now.now text.now }
+    ensures { Spec.IgnoresUnused now.now text.now }
 {}
 
 /// What follows a line feed changes no answer, unless an offset goes on there: after `@`, seconds, a space and a sign, or after
 /// a sign, two digits and a colon. What begins at a NUL there is ignored, unless something before it is.
 #[tactic(auto, using(crate::proofs::Alike::Cases::any_lines))]
 pub fn later_lines(text: &[u8], now: &Zoned<'_>)
-    ensures { IgnoresLines now.now text.now }
+    ensures { Spec.IgnoresLines now.now text.now }
 {}
 
 /// A text in which the reader comes to no date with dots, slashes or dashes but those that begin with their year has the same
 /// answer at every instant. So has one in which no number up to 70 stands directly before a dot, a slash or a dash and digits.
 #[tactic(auto, using(crate::proofs::Alike::Moments::any_instant, crate::proofs::Alike::Moments::without_days))]
 pub fn instants(text: &[u8], now: &Zoned<'_>)
-    ensures met { IgnoresInstant now.now text.now }
-    ensures begun { IsWithoutDayMonth now.now text.now }
+    ensures met { Spec.IgnoresInstant now.now text.now }
+    ensures begun { Spec.IsWithoutDayMonth now.now text.now }
 {}

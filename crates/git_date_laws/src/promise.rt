@@ -1,5 +1,5 @@
 //! The whole promise of Git's dates.
-ghost use Rattle.git_date_laws.specs.Headline.{IsHeadline};
+ghost use Rattle.git_date_laws.specs as Spec;
 
 use gix_date::{Time, Zoned};
 
@@ -13,5 +13,5 @@ use gix_date::{Time, Zoned};
 /// seconds to the end of 2099 by UTC, and after `@` what `raw` shows of every time. What `unix` shows of such seconds is read as
 /// them.
 pub fn headline(text: &[u8], time: Time, now: &Zoned<'_>)
-    ensures { IsHeadline now.now text.now time }
+    ensures { Spec.IsHeadline now.now text.now time }
 {}

@@ -1,6 +1,6 @@
 //! Where `gix_date` and `git_date` read the same time.
-ghost use Rattle.gix_date.specs.Families.Raw.{allows};
-ghost use Rattle.git_date_laws.specs.Agree.{AgreesOnSeconds, AgreesOnDates};
+ghost use Rattle.git_date_laws.specs as Spec;
+ghost use Rattle.gix_date.specs as GixDate;
 
 use gix_date::{RawOffsets, Zoned};
 
@@ -11,6 +11,6 @@ use gix_date::{RawOffsets, Zoned};
 /// The law does not speak of Git's own forms: `2008-02-14 20:30:45 -:0530` is behind UTC by `gix_date`, and ahead of it by Git.
 #[tactic(auto, using(crate::proofs::Agreement::Agreed::seconds_agree, crate::proofs::Agreement::Agreed::dates_agree))]
 pub fn agree(text: &str, raw: RawOffsets, now: &Zoned<'_>)
-    ensures seconds { AgreesOnSeconds (allows raw) now.now text.now }
-    ensures dates { AgreesOnDates (allows raw) now.now text.now }
+    ensures seconds { Spec.AgreesOnSeconds (GixDate.allows raw) now.now text.now }
+    ensures dates { Spec.AgreesOnDates (GixDate.allows raw) now.now text.now }
 {}

@@ -1,94 +1,77 @@
 -- Texts answered one after the other.
-use Rattle.std.proofs.Common.{◌≡◌, true, false, Bool, ℕ, List, [], ◌∷◌, ◌++◌, ◌&&◌, refl, sym, ap, ◌∙◌, subst, append-nil, append_assoc, ◌+◌, ◌<◌, suc, arith, length, take, drop, get_or, map, string_bytes, Result, Ok}
-use Rattle.std.proofs.lemmas.List.Concat.{flat_map-append}
-use Rattle.std.proofs.lemmas.List.Folds.{list_all-append}
-use Rattle.std.proofs.lemmas.List.{take_more, take-append-drop, length-map, length-take-le}
+use Rattle.std.proofs.Common.{◌≡◌, true, false, Bool, ℕ, List, [], ◌∷◌, ◌++◌, ◌&&◌, refl, sym, ap, ◌∙◌, subst, append-nil, append_assoc, ◌+◌, ◌<◌, take, drop, get_or, length, map, string_bytes, Result, Ok, Err}
+use Rattle.std.proofs.lemmas.List.{take_more, take-append-drop}
 use mathlib.Core.List.{map-append}
 use Rattle.std.specs.Global.{Global}
 use Rattle.std.specs.Prelude.{String}
-use Rattle.std.specs.List.{list_all}
+use Rattle.std.specs.declared.io.ErrorKind.{ErrorKind}
 use Rattle.gix_date.specs.Devices.StreamState.{StreamState, Takes}
-use Rattle.gix_date.proofs.Text.KnownBytes.{Appends-append}
-use Rattle.gix_date_tool.specs.Lines.{with_newline}
-use Rattle.gix_date_tool.specs.Messages.{Reports}
-use Rattle.gix_date_tool.specs.Run.{change}
-use Rattle.gix_date_tool.specs.declared.error.ToolError.{ToolError}
-use Rattle.gix_date_tool.proofs.Sending.{Appends-nil}
-use Rattle.git_date_tool.specs.Answers.Replies.{Reply, IsReply}
-use Rattle.git_date_tool.specs.Runs.Runs.{Output, output, AreReplies, reply_lines, Warns, Answered, Serves, both, first_verdict, verdict_of, verdict_on}
+use Rattle.streams.specs.Changes.{Change, IsWritten, change}
+use Rattle.streams.specs.Lines.{with_newline}
+use Rattle.streams.specs.Messages.{Reports}
+use Rattle.streams.specs.Serving.{Answer as ServerAnswer, Ran, Service, answer_of, fault_of, service}
+use Rattle.streams.specs.declared.error.ToolError.TheVariants as errors
+use Rattle.streams.specs.declared.error.ToolError.{ToolError}
+use Rattle.streams.specs.declared.serving.Stop.{Stop}
+use Rattle.streams.specs.declared.serving.TheConstants.{MAX_LINES}
+use Rattle.streams.proofs.Sending.{Appends-nil}
+use Rattle.git_date_tool.specs.Answers.Replies.{IsReply, Reply, answer_reply, refused}
+use Rattle.git_date_tool.specs.Answers.Readers.{IsRead}
+use Rattle.git_date_tool.specs.Answers.Shown.{IsShown}
+use Rattle.git_date_tool.specs.declared.answers.DateLine.{DateLine}
+use Rattle.git_date_tool.specs.declared.answers.refusals.Refusal.{Refusal}
+use Rattle.git_date.specs.declared.approximate.Approximate.{Approximate}
 use Rattle.git_date_tool.specs.Answers.Warnings.{warning_line}
+use Rattle.git_date_tool.specs.Served.{no_lines}
+use Rattle.git_date_tool.specs.declared.answers.Answer.{Answer}
 use Rattle.git_date_tool.specs.declared.answers.Query.{Query}
-use Rattle.git_date_tool.specs.declared.runs.session.Verdict.{Verdict}
+use Rattle.git_date_tool.specs.declared.runs.Answering.{Answering}
+use Rattle.git_date_tool.specs.Runs.{Answered, AnswersAll, AnswersLines, AnswersTo, BreaksAmong, Output, RunsThrough, Serves, Turn, both, first_turn, first_verdict, next_number, output, output_of, turn_of, verdict_of, verdict_on}
+use Rattle.git_date_tool.specs.declared.runs.Verdict.{Verdict}
 
 and_true : (b : Bool) → (b && true) ≡ b
 and_true true = refl
 and_true false = refl
 
--- one more reply
-AreReplies-more : (query : Query) (texts : List (List ℕ)) (replies : List Reply) (text : List ℕ) (reply : Reply)
-    → AreReplies query texts replies → IsReply query text reply → AreReplies query (texts ++ text ∷ []) (replies ++ reply ∷ [])
-AreReplies-more query [] [] text reply h k = (k, tt)
-AreReplies-more query [] (r ∷ rs) text reply h k = absurd h
-AreReplies-more query (t ∷ ts) [] text reply h k = absurd h
-AreReplies-more query (t ∷ ts) (r ∷ rs) text reply h k = (h.0, AreReplies-more query ts rs text reply h.1 k)
+one-verdict : (reply : Reply) → verdict_of reply ≡ verdict_on (reply ∷ [])
+one-verdict reply = λ i. record { all_read = sym (and_true reply.is_date) i; all_clear = sym (and_true reply.is_clear) i }
 
-lines-more : (replies : List Reply) (reply : Reply) → reply_lines (replies ++ reply ∷ []) ≡ reply_lines replies ++ with_newline reply.text
-lines-more replies reply =
-    flat_map-append (λ (r : Reply). with_newline r.text) replies (reply ∷ []) ∙ ap (λ xs. reply_lines replies ++ xs) (append-nil (with_newline reply.text))
+-- one text was answered
+answered-one : (turn : Turn) (text : List ℕ) (out : Output) (one : Verdict) → Serves turn.query turn.number text out (Ok one) → Answered turn (text ∷ []) out one
+unfolding Serves
+answered-one turn text out one h = record {
+  replies = h.0 ∷ [];
+  each = (h.1, tt);
+  wrote = subst (Takes out.writing.old out.writing.new) (sym (append-nil (with_newline h.0.text))) h.2;
+  warned = (out.telling.new, h.3, refl);
+  verdict_is = h.4 ∙ one-verdict h.0;
+}
 
--- a warning more, with the number after those of the others
-Warns-more : (query : Query) (number next : ℕ) (a b c : StreamState) (replies : List Reply) (reply : Reply) → next ≡ length replies + number
-    → Warns query number a b replies → Reports (change b c) (warning_line query.numbered next reply.warning) → Warns query number a c (replies ++ reply ∷ [])
-Warns-more query number next a b c [] reply e h k =
-    let first : next ≡ number = omega (arith, e) in (
-      c,
-      subst (λ (n : ℕ). Reports (change a c) (warning_line query.numbered n reply.warning)) first
-          (subst (λ (s : StreamState). Reports (change s c) (warning_line query.numbered next reply.warning)) h k),
-      refl,
-    )
-Warns-more query number next a b c (r ∷ rs) reply e h k =
-    (h.0, h.1, Warns-more query (number + 1) next h.0 b c rs reply (omega (arith, e)) h.2 k)
+-- answering one text had a fault
+broken-one : (turn : Turn) (text : List ℕ) (out : Output) (fault : ToolError) → Serves turn.query turn.number text out (Err fault) → BreaksAmong turn (text ∷ []) out fault
+broken-one turn text out fault h = record {
+  front = [];
+  text = text;
+  beyond = [];
+  whole = refl;
+  broken = record {
+    written = out.writing.old;
+    told = out.telling.old;
+    verdict = first_verdict;
+    before = record { replies = []; each = tt; wrote = Appends-nil out.writing.old.bytes; warned = refl; verdict_is = refl };
+    at = h;
+  };
+}
 
--- as many replies as texts
-as-many : (query : Query) (texts : List (List ℕ)) (replies : List Reply) → AreReplies query texts replies → length replies ≡ length texts
-as-many query [] [] h = refl
-as-many query [] (r ∷ rs) h = absurd h
-as-many query (t ∷ ts) [] h = absurd h
-as-many query (t ∷ ts) (r ∷ rs) h = ap (λ (n : ℕ). suc n) (as-many query ts rs h.1)
-
-all-more : (P : Reply → Bool) (replies : List Reply) (reply : Reply) → list_all P (replies ++ reply ∷ []) ≡ (list_all P replies && P reply)
-all-more P replies reply = list_all-append P replies (reply ∷ []) ∙ ap (λ b. list_all P replies && b) (and_true (P reply))
-
-verdict-more : (replies : List Reply) (reply : Reply) → both (verdict_on replies) (verdict_of reply) ≡ verdict_on (replies ++ reply ∷ [])
-verdict-more replies reply =
-    let reads = all-more (λ (r : Reply). r.is_date) replies reply in
-    let clear = all-more (λ (r : Reply). r.is_clear) replies reply in
-    λ i. record { all_read = (sym reads) i; all_clear = (sym clear) i }
-
--- with no text more
-pub both-first : (verdict : Verdict) → both verdict first_verdict ≡ verdict
-both-first verdict =
-    λ i. record { all_read = (and_true verdict.all_read) i; all_clear = (and_true verdict.all_clear) i }
-
--- no text was answered yet
-pub Answered-none : (query : Query) (sink messages : StreamState) (none : Verdict) → none ≡ first_verdict
-    → Answered query [] (output (change sink sink) (change messages messages)) none
-Answered-none query sink messages none is =
-    record { replies = []; each = tt; wrote = Appends-nil sink.bytes; warned = refl; verdict_is = is }
-
--- some texts, and the next
-pub Answered-more : (query : Query) (texts : List (List ℕ)) (text : List ℕ) (a b c d e f : StreamState) (all one next : Verdict) → next ≡ both all one
-    → Answered query texts (output (change a b) (change d e)) all → Serves query (length texts + 1) text (output (change b c) (change e f)) (Ok one)
-    → Answered query (texts ++ text ∷ []) (output (change a c) (change d f)) next
-Answered-more query texts text a b c d e f all one next is h k =
-    let reply = k.0 in
-    record {
-      replies = h.replies ++ reply ∷ [];
-      each = AreReplies-more query texts h.replies text reply h.each k.1;
-      wrote = subst (Takes a c) (sym (lines-more h.replies reply)) (Appends-append a.bytes b.bytes c.bytes (reply_lines h.replies) (with_newline reply.text) h.wrote k.2);
-      warned = Warns-more query 1 (length texts + 1) d e f h.replies reply (ap (λ (n : ℕ). n + 1) (sym (as-many query texts h.replies h.each))) h.warned k.3;
-      verdict_is = is ∙ ap (λ x. both x one) h.verdict_is ∙ ap (λ x. both (verdict_on h.replies) x) k.4 ∙ verdict-more h.replies reply;
-    }
+-- a fault among some texts is one among more
+pub breaks-beyond : (turn : Turn) (texts more : List (List ℕ)) (out : Output) (fault : ToolError) → BreaksAmong turn texts out fault → BreaksAmong turn (texts ++ more) out fault
+breaks-beyond turn texts more out fault h = record {
+  front = h.front;
+  text = h.text;
+  beyond = h.beyond ++ more;
+  whole = ap (λ xs. xs ++ more) h.whole ∙ append_assoc h.front (h.text ∷ h.beyond) more;
+  broken = h.broken;
+}
 
 -- the texts up to one, and that one
 pub texts-more : (texts : List (String Global)) (i : ℕ) (d : String Global) (text : List ℕ) → i < length texts → text ≡ string_bytes (get_or texts i d)
@@ -106,10 +89,80 @@ texts-around texts i d text within is =
     ∙ ap (λ ts. ts ++ map string_bytes after) (texts-more texts i d text within is)
     ∙ append_assoc (map string_bytes (take i texts)) (text ∷ []) (map string_bytes after)
 
--- the number of the next text
-pub numbered-next : (query : Query) (texts : List (String Global)) (i before : ℕ) (text : List ℕ) (out : Output) (result : Result Verdict ToolError) → i < length texts
-    → before ≡ i → Serves query (before + 1) text out result → Serves query (length (map string_bytes (take i texts)) + 1) text out result
-numbered-next query texts i before text out result within e h =
-    let same : before ≡ length (map string_bytes (take i texts)) =
-    e ∙ sym (length-map (take i texts) string_bytes ∙ length-take-le i texts (omega (arith, within))) in
-    subst (λ (n : ℕ). Serves query (n + 1) text out result) same h
+-- what a call of the server comes to
+pub served : (old : Answering) (x y m n : StreamState) (text : List ℕ) (one verdict : Verdict) (next : ℕ) → Serves old.query old.number text (output (change x y) (change m n)) (Ok one)
+    → next ≡ next_number old.number → verdict ≡ both old.verdict one
+    → AnswersAll (service old x m) (service (record { alloc = old.alloc; query = old.query; number = next; verdict = verdict }) y n) (text ∷ [])
+served old x y m n text one verdict next h number is = record {
+  verdict = one;
+  answered = answered-one (turn_of old) text (output (change x y) (change m n)) one h;
+  turn = ap (λ n. record (turn_of old) { number = n }) number;
+  all = is;
+}
+
+pub unserved : (old : Answering) (x y m n : StreamState) (text : List ℕ) (fault : ToolError) → Serves old.query old.number text (output (change x y) (change m n)) (Err fault)
+    → BreaksAmong (turn_of old) (text ∷ []) (output (change x y) (change m n)) fault
+unserved old x y m n text fault h = broken-one (turn_of old) text (output (change x y) (change m n)) fault h
+
+pub settled : (s : Service Answering) → AnswersAll s s []
+settled s = no_lines s
+
+-- what answering one text comes to
+pub answered : (query : Query) (number : ℕ) (text : List ℕ) (x y m n : StreamState) (answer : Answer) (is_date is_clear : Bool) → IsReply query text (answer_reply answer)
+    → Takes x y (with_newline (answer_reply answer).text) → Reports (change m n) (warning_line query.numbered number (answer_reply answer).warning)
+    → is_date ≡ (answer_reply answer).is_date → is_clear ≡ (answer_reply answer).is_clear
+    → Serves query number text (output (change x y) (change m n)) (Ok (record { all_read = is_date; all_clear = is_clear }))
+unfolding Serves
+answered query number text x y m n answer is_date is_clear reply wrote warned e f = (answer_reply answer, reply, wrote, warned, λ i. record { all_read = e i; all_clear = f i })
+
+pub unwritten : (query : Query) (number : ℕ) (text : List ℕ) (x y m : StreamState) (answer : Answer) (kind : ErrorKind) (r : Result (Unit {0}) ErrorKind) → IsReply query text (answer_reply answer)
+    → IsWritten (change x y) (with_newline (answer_reply answer).text) r → r ≡ Err kind
+    → Serves query number text (output (change x y) (change m m)) (Err (errors.Write kind))
+unfolding Serves
+unwritten query number text x y m answer kind r reply wrote is =
+    let failed : IsWritten (change x y) (with_newline (answer_reply answer).text) (Err kind) = subst (IsWritten (change x y) (with_newline (answer_reply answer).text)) is wrote in
+    (answer_reply answer, reply, failed.0, failed.1, refl)
+
+pub unanswered : (query : Query) (number : ℕ) (text : List ℕ) (x m : StreamState) → Serves query number text (output (change x x) (change m m)) (Err errors.Memory)
+unfolding Serves
+unanswered query number text x m = (refl, refl)
+
+-- what was answered from the first text on
+answered-from : (query : Query) (u v : Service Answering) (lines : List (List ℕ)) (answer : ServerAnswer) → turn_of u.server ≡ first_turn query → u.server.verdict ≡ first_verdict
+    → AnswersTo u v lines answer → AnswersLines query (output_of u v) v.server.verdict lines answer
+answered-from query u v lines (Ok t) turn fresh h =
+    subst (Answered (first_turn query) lines (output_of u v)) (sym (h.all ∙ ap (λ verdict. both verdict h.verdict) fresh))
+    (subst (λ t. Answered t lines (output_of u v) h.verdict) turn h.answered)
+answered-from query u v lines (Err fault) turn fresh h = subst (λ t. BreaksAmong t lines (output_of u v) fault) turn h
+
+ran-from : (query : Query) (u v : Service Answering) (most : ℕ) (reading : Change) (ended : Result ℕ Stop) → turn_of u.server ≡ first_turn query → u.server.verdict ≡ first_verdict
+    → Ran (AnswersTo u v) (Unit {0}) most reading ended → Ran (AnswersLines query (output_of u v) v.server.verdict) (Unit {0}) most reading ended
+ran-from query u v most reading ended turn fresh h = record {
+  reached = h.reached;
+  read = h.read;
+  ends = h.ends;
+  served = answered-from query u v h.reached.due (answer_of ended) turn fresh h.served;
+  settled = h.settled;
+}
+
+pub run_ended : (query : Query) (first last : Answering) (x y m n : StreamState) (reading : Change) (ended : Result ℕ Stop) (count : ℕ)
+    → turn_of first ≡ first_turn query → first.verdict ≡ first_verdict → Ran (AnswersTo (service first x m) (service last y n)) (Unit {0}) MAX_LINES reading ended
+    → ended ≡ Ok count → RunsThrough query reading (output (change x y) (change m n)) (Ok last.verdict)
+unfolding RunsThrough
+run_ended query first last x y m n reading ended count turn fresh ran e =
+    (Ok count, last.verdict, rw e at (ran-from query (service first x m) (service last y n) _ _ _ turn fresh ran), refl)
+
+pub run_stopped : (query : Query) (first last : Answering) (x y m n : StreamState) (reading : Change) (ended : Result ℕ Stop) (stop : Stop) (fault : ToolError)
+    → turn_of first ≡ first_turn query → first.verdict ≡ first_verdict → Ran (AnswersTo (service first x m) (service last y n)) (Unit {0}) MAX_LINES reading ended
+    → ended ≡ Err stop → fault ≡ fault_of stop → RunsThrough query reading (output (change x y) (change m n)) (Err fault)
+unfolding RunsThrough
+run_stopped query first last x y m n reading ended stop fault turn fresh ran e f =
+    (Err stop, last.verdict, rw e at (ran-from query (service first x m) (service last y n) _ _ _ turn fresh ran), ap Err f)
+
+-- a date that is not shown
+pub not_shown : (query : Query) (text : List ℕ) (found : Approximate) (line : Result DateLine Refusal) (refusal : Refusal)
+    → IsRead query.reader query.strictness query.now text (Ok found) → IsShown query.shown query.now found.time (Ok line) → line ≡ Err refusal
+    → IsReply query text (refused refusal)
+unfolding IsReply
+not_shown query text found line refusal is shown e =
+    (Ok found, is, (Err refusal, subst (λ (line : Result DateLine Refusal). IsShown query.shown query.now found.time (Ok line)) e shown, refl))

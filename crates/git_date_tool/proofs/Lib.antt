@@ -1,11 +1,9 @@
 pub mod Answering
-pub mod Cutting
-pub mod Following
+pub mod AskedZones
 pub mod Fronts
+pub mod Offsets
 pub mod OfText
 pub mod Reported
-pub mod Texts
 pub mod Told
 pub mod Words
 pub mod WrongWords
-pub mod Zoning

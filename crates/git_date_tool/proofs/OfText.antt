@@ -2,7 +2,7 @@
 use Rattle.std.proofs.Common.{◌≡◌, ℕ, List, Result, Err, refl, sym, subst}
 use Rattle.std.proofs.lemmas.Str.{is_utf8-from_IsUtf8}
 use Rattle.std.specs.Prelude.{IsUtf8}
-use Rattle.git_date.specs.declared.approximate.answer.Approximate.{Approximate}
+use Rattle.git_date.specs.declared.approximate.Approximate.{Approximate}
 use Rattle.gix_date.proofs.Text.Texts.{no_text}
 use Rattle.git_date_tool.specs.Answers.Readers.{IsIfText, IsOfText}
 use Rattle.git_date_tool.specs.declared.answers.refusals.Refusal.{Refusal}

@@ -1,26 +1,17 @@
 -- What the program says of its end.
-use Rattle.std.proofs.Common.{◌≡◌, ◌∙◌, ℕ, List, [], ◌∷◌, ◌++◌, sym, ap, ap₂, subst, append_assoc, Bool, false, cond, Option, Some, None}
+use Rattle.std.proofs.Common.{◌≡◌, ◌∙◌, Bool, ℕ, List, [], ◌∷◌, ◌++◌, sym, ap, ap₂, subst, append_assoc, append-nil, Option, None, Some}
 use Rattle.std.specs.Prelude.{codes}
 use Rattle.gix_date.specs.Text.Characters.{newline}
-use Rattle.gix_date_tool.specs.Messages.{WritesMessage, Reports, fault_words, cause_words}
-use Rattle.gix_date_tool.specs.Run.{Change}
-use Rattle.gix_date_tool.specs.declared.error.ToolError.{ToolError}
-use Rattle.git_date_tool.specs.Program.{fault_message, is_closed_pipe, message, message_of, usage_message}
-use Rattle.git_date_tool.specs.CommandLine.Wrong.{about, about_any}
+use Rattle.gix_date.specs.Devices.StreamState.{StreamState}
+use Rattle.streams.specs.Messages.{WritesMessage, Reports, fault_message}
+use Rattle.streams.specs.declared.error.ToolError.{ToolError}
+use Rattle.streams.specs.Changes.{Change, change}
+use Rattle.git_date_tool.specs.Program.{Says, message_of}
+use Rattle.git_date_tool.specs.CommandLine.Wrong.{about, about_any, place_digits, wrong_lead, wrong_place, wrong_subject, wrong_text, wrong_words}
 use Rattle.git_date_tool.specs.declared.program.help.TheConstants.{USAGE}
-use Rattle.git_date_tool.specs.declared.program.outcome.Outcome.{Outcome}
-
--- the pieces of a fault's line, where the fault is to be told
-pub fault-reported : (telling : Change) (fault : ToolError) (words cause : List ℕ) → is_closed_pipe fault ≡ false → words ≡ fault_words fault
-    → cause ≡ cause_words fault → WritesMessage telling (codes "git_date: " ++ (words ++ (cause ++ newline ∷ []))) → Reports telling (fault_message fault)
-fault-reported telling fault words cause told-of w k said =
-    let told = message (fault_words fault ++ cause_words fault) in
-    let whole : codes "git_date: " ++ (words ++ (cause ++ newline ∷ [])) ≡ told =
-    ap (λ xs. codes "git_date: " ++ (xs ++ (cause ++ newline ∷ []))) w
-    ∙ ap (λ xs. codes "git_date: " ++ (fault_words fault ++ (xs ++ newline ∷ []))) k
-    ∙ ap (λ xs. codes "git_date: " ++ xs) (sym (append_assoc (fault_words fault) (cause_words fault) (newline ∷ [])))
-    ∙ sym (append_assoc (codes "git_date: ") (fault_words fault ++ cause_words fault) (newline ∷ [])) in
-    subst (λ (closed : Bool). Reports telling (cond closed None (Some told))) (sym told-of) (subst (WritesMessage telling) whole said)
+use Rattle.git_date_tool.specs.declared.program.Outcome.{Outcome}
+use Rattle.git_date_tool.specs.declared.program.Outcome.TheVariants.{Fault, Shown, NoClock, Unquoted}
+use Rattle.git_date_tool.specs.declared.program.wrong.WrongWords.{WrongWords}
 
 -- a line and what follows it, in pieces
 in-pieces : (front lead place text line usage : List ℕ) → front ++ (lead ++ (place ++ (text ++ (line ++ usage)))) ≡ ((front ++ (lead ++ (place ++ text))) ++ line) ++ usage
@@ -40,30 +31,63 @@ of-word front word mid lead place text more =
     ∙ ap (λ (xs : List ℕ). front ++ (word ++ (mid ++ xs))) (append_assoc lead (place ++ text) more)
     ∙ ap (λ (xs : List ℕ). front ++ (word ++ (mid ++ (lead ++ xs)))) (append_assoc place text more))
 
-pub tells-usage : (telling : Change) (lead place text : List ℕ)
-    → WritesMessage telling (codes "git_date: " ++ (lead ++ (place ++ (text ++ (newline ∷ USAGE.now)))))
-    → WritesMessage telling (usage_message (lead ++ (place ++ text)))
-tells-usage telling lead place text h =
-    subst (WritesMessage telling) (in-pieces (codes "git_date: ") lead place text (newline ∷ []) USAGE.now) h
-
-pub tells-about : (telling : Change) (word lead place text : List ℕ)
-    → WritesMessage telling (codes "git_date: '" ++ (word ++ (codes "' " ++ (lead ++ (place ++ (text ++ (newline ∷ USAGE.now)))))))
-    → WritesMessage telling (usage_message (about word (lead ++ (place ++ text))))
-tells-about telling word lead place text h =
-    let said = codes "git_date: '" ++ (word ++ (codes "' " ++ (lead ++ (place ++ text)))) in
-    subst (WritesMessage telling) (of-word (codes "git_date: '") word (codes "' ") lead place text (newline ∷ USAGE.now) ∙ sym (append_assoc said (newline ∷ []) USAGE.now)) h
-
--- what is wrong with a word, by what it is
-pub tells-wrong : (telling : Change) (subject : Option (List ℕ)) (word said due : List ℕ) → subject ≡ Some word → said ≡ due
-    → WritesMessage telling (usage_message (about word said)) → WritesMessage telling (usage_message (about_any subject due))
-tells-wrong telling subject word said due is e h =
-    subst (λ (s : Option (List ℕ)). WritesMessage telling (usage_message (about_any s due))) (sym is)
-    (subst (λ (said : List ℕ). WritesMessage telling (usage_message (about word said))) e h)
-
 -- what is said of it, by its pieces
-pub said-is : (lead place text l p t : List ℕ) → lead ≡ l → place ≡ p → text ≡ t → lead ++ (place ++ text) ≡ l ++ (p ++ t)
+said-is : (lead place text l p t : List ℕ) → lead ≡ l → place ≡ p → text ≡ t → lead ++ (place ++ text) ≡ l ++ (p ++ t)
 said-is lead place text l p t d e f = ap₂ (λ (xs ys : List ℕ). xs ++ ys) d (ap₂ (λ (xs ys : List ℕ). xs ++ ys) e f)
 
+pub said : (from to : StreamState) (lead place text more : List ℕ)
+    → WritesMessage (change from to) (codes "git_date: " ++ (lead ++ (place ++ (text ++ (newline ∷ [] ++ (more ++ []))))))
+    → Says (change from to) (lead ++ (place ++ text)) more
+unfolding Says
+said from to lead place text more h =
+    subst (WritesMessage (change from to))
+    (ap (λ (xs : List ℕ). codes "git_date: " ++ (lead ++ (place ++ (text ++ (newline ∷ xs))))) (append-nil more)
+    ∙ in-pieces (codes "git_date: ") lead place text (newline ∷ []) more) h
+
+pub about_said : (from to : StreamState) (word lead place text more : List ℕ)
+    → WritesMessage (change from to) (codes "git_date: '" ++ (word ++ (codes "' " ++ (lead ++ (place ++ (text ++ (newline ∷ [] ++ (more ++ []))))))))
+    → Says (change from to) (about word (lead ++ (place ++ text))) more
+unfolding Says
+about_said from to word lead place text more h =
+    let said = codes "git_date: '" ++ (word ++ (codes "' " ++ (lead ++ (place ++ text)))) in
+    subst (WritesMessage (change from to))
+    (ap (λ (xs : List ℕ). codes "git_date: '" ++ (word ++ (codes "' " ++ (lead ++ (place ++ (text ++ (newline ∷ xs))))))) (append-nil more)
+    ∙ of-word (codes "git_date: '") word (codes "' ") lead place text (newline ∷ more) ∙ sym (append_assoc said (newline ∷ []) more)) h
+
+-- what is wrong with the words, where it is a word and where it is none
+pub wrong_told : (from to : StreamState) (why : WrongWords) (place : Option ℕ) (word lead digits text : List ℕ) → Some word ≡ wrong_subject why → lead ≡ wrong_lead why
+    → place ≡ wrong_place why → digits ≡ place_digits place → text ≡ wrong_text why
+    → Says (change from to) (about word (lead ++ (digits ++ text))) USAGE.now → Says (change from to) (wrong_words why) USAGE.now
+wrong_told from to why place word lead digits text is l p d t h =
+    subst (λ (said : List ℕ). Says (change from to) said USAGE.now)
+    (ap (about word) (said-is lead digits text _ _ _ l (d ∙ ap place_digits p) t)
+    ∙ ap (λ (s : Option (List ℕ)). about_any s (wrong_lead why ++ (place_digits (wrong_place why) ++ wrong_text why))) is) h
+
+pub none_told : (from to : StreamState) (why : WrongWords) (place : Option ℕ) (lead digits text : List ℕ) → None ≡ wrong_subject why → lead ≡ wrong_lead why
+    → place ≡ wrong_place why → digits ≡ place_digits place → text ≡ wrong_text why
+    → Says (change from to) (lead ++ (digits ++ text)) USAGE.now → Says (change from to) (wrong_words why) USAGE.now
+none_told from to why place lead digits text none l p d t h =
+    subst (λ (said : List ℕ). Says (change from to) said USAGE.now)
+    (said-is lead digits text _ _ _ l (d ∙ ap place_digits p) t
+    ∙ ap (λ (s : Option (List ℕ)). about_any s (wrong_lead why ++ (place_digits (wrong_place why) ++ wrong_text why))) none) h
+
 -- what is said of an end, by what it is
-pub end-reported : (telling : Change) (outcome this : Outcome) → outcome ≡ this → Reports telling (message_of this) → Reports telling (message_of outcome)
-end-reported telling outcome this is h = subst (λ e. Reports telling (message_of e)) (sym is) h
+end-reported : (from to : StreamState) (outcome this : Outcome) → outcome ≡ this → Reports (change from to) (message_of this) → Reports (change from to) (message_of outcome)
+end-reported from to outcome this is h = subst (λ e. Reports (change from to) (message_of e)) (sym is) h
+
+pub fault_reported : (from to : StreamState) (outcome : Outcome) (fault : ToolError) → outcome ≡ Fault fault → Reports (change from to) (fault_message (codes "git_date") fault)
+    → Reports (change from to) (message_of outcome)
+fault_reported from to outcome fault is h = end-reported from to outcome (Fault fault) is h
+
+pub shown_reported : (from to : StreamState) (outcome : Outcome) (why : WrongWords) → outcome ≡ Shown why → Says (change from to) (wrong_words why) USAGE.now
+    → Reports (change from to) (message_of outcome)
+unfolding Says
+shown_reported from to outcome why is h = end-reported from to outcome (Shown why) is h
+
+pub clock_reported : (from to : StreamState) (outcome : Outcome) → outcome ≡ NoClock → WritesMessage (change from to) (codes "git_date: the clock cannot be read\n")
+    → Reports (change from to) (message_of outcome)
+clock_reported from to outcome is h = end-reported from to outcome NoClock is h
+
+pub quote_reported : (from to : StreamState) (outcome : Outcome) (all_read : Bool) → outcome ≡ Unquoted all_read
+    → WritesMessage (change from to) (codes "git_date: each word is a text by itself; quote a text of several words\n") → Reports (change from to) (message_of outcome)
+quote_reported from to outcome all_read is h = end-reported from to outcome (Unquoted all_read) is h

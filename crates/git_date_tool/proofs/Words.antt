@@ -1,9 +1,10 @@
 -- Words of letters and digits.
 use Rattle.std.proofs.Common.{ℕ, ◌+◌, ◌<◌, ◌≤◌, length, cond, true, false, Bool, ◌≡◌, List, [], ◌∷◌, suc, zero, take, arith, refl, sym, subst}
 use Rattle.std.proofs.lemmas.List.Sums.{prefix_len-le-length}
+use Rattle.std.proofs.lemmas.Str.{IsUtf8-from_ascii}
 use Rattle.std.specs.Char.{is_ascii_alphanumeric}
 use Rattle.std.specs.List.{prefix_len}
-use Rattle.std.specs.Prelude.{IsAscii, ◌==◌, ◌||◌}
+use Rattle.std.specs.Prelude.{IsAscii, IsUtf8, ◌==◌, ◌||◌}
 use Rattle.gix_date.specs.Text.Characters.{minus, plus}
 use Rattle.git_date_tool.specs.Answers.Warnings.{word_len}
 
@@ -52,6 +53,9 @@ sign_by b bs true e =
     subst (λ (k : ℕ). IsAscii (take k (b ∷ bs))) (sym one) (more_is_ascii b (take n bs) (grind (arith, e)) (letters_are_ascii bs))
 sign_by b bs false e = letters_are_ascii (b ∷ bs)
 
-pub word_is_ascii : (text : List ℕ) → IsAscii (take (word_len text) text)
+word_is_ascii : (text : List ℕ) → IsAscii (take (word_len text) text)
 word_is_ascii [] = nothing_is_ascii
 word_is_ascii (b ∷ bs) = sign_by b bs (b == plus || b == minus) refl
+
+pub word_is_utf8 : (text : List ℕ) (n : ℕ) → n ≡ word_len text → IsUtf8 (take n text)
+word_is_utf8 text n is = subst (λ (k : ℕ). IsUtf8 (take k text)) (sym is) (IsUtf8-from_ascii (take (word_len text) text) (word_is_ascii text))

@@ -1,15 +1,15 @@
 -- Wrong words are refused, whatever the machine has.
 use Rattle.std.proofs.Common.{◌≡◌, ℕ, List, Some, Result, Err, subst}
 use Rattle.gix_date.specs.Devices.StreamState.{StreamState}
-use Rattle.gix_date_tool.specs.Messages.{Reports}
-use Rattle.gix_date_tool.specs.Run.{Change, change}
-use Rattle.gix_date_tool.specs.declared.program.Status.{Status}
+use Rattle.streams.specs.Messages.{Reports}
+use Rattle.streams.specs.Changes.{Change, change}
+use Rattle.streams.specs.declared.program.Status.{Status}
 use Rattle.git_date_tool.specs.CommandLine.Command.{Ask}
 use Rattle.git_date_tool.specs.Laws.{IsRefused, WrongWordsAreRefused}
 use Rattle.git_date_tool.specs.Program.{EndsCommand, message_of, status_of, usage_message}
-use Rattle.git_date_tool.specs.Runs.Runs.{output}
-use Rattle.git_date_tool.specs.declared.program.outcome.Outcome.{Outcome}
-use Rattle.git_date_tool.specs.declared.program.outcome.Outcome.TheVariants.{Answered, Shown}
+use Rattle.git_date_tool.specs.Runs.{output}
+use Rattle.git_date_tool.specs.declared.program.Outcome.{Outcome}
+use Rattle.git_date_tool.specs.declared.program.Outcome.TheVariants.{Answered, Shown}
 
 -- wrong words
 refused-by : (why : List ℕ) (reading writing telling : Change) (warned : StreamState) (outcome : Outcome) (status : Status)
@@ -27,7 +27,8 @@ refused-by why reading writing telling warned (Shown told) status h said is =
 refused-by why reading writing telling warned (Answered all_read) status h said is = absurd h.3
 refused-by why reading writing telling warned x status h said is = absurd h.3
 
-pub wrong-refused : WrongWordsAreRefused
-wrong-refused words why reading writing telling status wrong h =
+pub wrong_refused : WrongWordsAreRefused
+unfolding WrongWordsAreRefused
+wrong_refused words why reading writing telling status wrong h =
     let ends = subst (λ (ask : Result Ask (List ℕ)). EndsCommand ask reading (output writing (change telling.old h.warned)) h.outcome) wrong h.ends in
     refused-by why reading writing telling h.warned h.outcome status ends h.reports h.status_is

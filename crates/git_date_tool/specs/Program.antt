@@ -5,36 +5,34 @@ use Rattle.jiff.specs.Types.{TimeZone}
 use Rattle.jiff.specs.Words.{zoned_nanos}
 use Rattle.jiff.specs.declared.zoned.Zoned.{Zoned}
 use Rattle.gix_date.specs.Relative.Steps.{zone_of}
-use Rattle.gix_date_tool.specs.Messages.{Reports, fault_words, cause_words}
-use Rattle.gix_date_tool.specs.Lines.{with_newline}
-use Rattle.gix_date_tool.specs.Run.{Change, change}
-use Rattle.gix_date_tool.specs.declared.error.ToolError.{ToolError}
-use Rattle.gix_date_tool.specs.declared.error.ToolError.TheVariants as errors
-use Rattle.gix_date_tool.specs.declared.program.Status.{Status}
-use Rattle.gix_date_tool.specs.declared.program.Status.TheVariants.{Success, Failure, Usage}
-use Rattle.std.specs.declared.io.ErrorKind.TheVariants as kinds
+use Rattle.streams.specs.Messages.{WritesMessage, Reports, fault_message, message as line_of}
+use Rattle.streams.specs.Changes.{Change, change, IsUntouched}
+use Rattle.streams.specs.declared.error.ToolError.{ToolError}
+use Rattle.streams.specs.declared.error.ToolError.TheVariants as errors
+use Rattle.streams.specs.declared.program.Status.{Status}
+use Rattle.streams.specs.declared.program.Status.TheVariants.{Success, Failure, Usage}
 use Rattle.git_date.specs.declared.mode.DateKind.TheVariants.{Raw}
 use Rattle.git_date_tool.specs.Answers.Shown.{Git, way_of}
 use Rattle.git_date_tool.specs.CommandLine.Command.{Answer, Ask, Asked, Help, Version, asked}
 use Rattle.git_date_tool.specs.CommandLine.Now.{IsInstantOf}
-use Rattle.git_date_tool.specs.Runs.Runs.{IsUntouched, Output, output, RunsOver, RunsThrough}
+use Rattle.git_date_tool.specs.Runs.{Output, output, RunsOver, RunsThrough}
 use Rattle.git_date_tool.specs.CommandLine.Wrong.{not_text, wrong_words}
 use Rattle.git_date_tool.specs.Zones.Zones.{IsAskedZone, IsTextOf, MayLackZone, NeedsSystem}
 use Rattle.git_date_tool.specs.declared.answers.Query.{Query}
-use Rattle.git_date_tool.specs.declared.program.outcome.NoNow.{NoNow}
-use Rattle.git_date_tool.specs.declared.program.outcome.NoNow.TheVariants.{Clock, NoMoment as NoMomentOf}
-use Rattle.git_date_tool.specs.declared.program.outcome.Outcome.{Outcome}
-use Rattle.git_date_tool.specs.declared.program.outcome.Outcome.TheVariants.{Answered, Fault, NoClock, Printed, Shown, Unquoted}
+use Rattle.git_date_tool.specs.declared.program.NoNow.{NoNow}
+use Rattle.git_date_tool.specs.declared.program.NoNow.TheVariants.{Clock, NoMoment as NoMomentOf}
+use Rattle.git_date_tool.specs.declared.program.Outcome.{Outcome}
+use Rattle.git_date_tool.specs.declared.program.Outcome.TheVariants.{Answered, Fault, NoClock, Printed, Shown, Unquoted}
 use Rattle.git_date_tool.specs.declared.program.help.TheConstants.{HELP, USAGE, VERSION}
-use Rattle.git_date_tool.specs.declared.answers.readers.Reader.TheVariants.{Approxidate}
-use Rattle.git_date_tool.specs.declared.answers.readers.Strictness.TheVariants.{Usual}
-use Rattle.git_date_tool.specs.declared.runs.session.Verdict.{Verdict}
+use Rattle.git_date_tool.specs.declared.answers.Reader.TheVariants.{Approxidate}
+use Rattle.git_date_tool.specs.declared.answers.Strictness.TheVariants.{Usual}
+use Rattle.git_date_tool.specs.declared.runs.Verdict.{Verdict}
 use Rattle.git_date_tool.specs.declared.answers.warnings.Numbered.{Numbered}
 use Rattle.git_date_tool.specs.declared.answers.warnings.Numbered.TheVariants.{Line, Text}
 use Rattle.git_date_tool.specs.declared.program.wrong.WrongWords.{WrongWords}
 use Rattle.git_date_tool.specs.declared.program.wrong.WrongWords.TheVariants.{NoMoment, NoZone}
-use Rattle.git_date_tool.specs.declared.zones.files.NoZone.{NoZone as Lack}
-use Rattle.git_date_tool.specs.declared.zones.files.NoZone.TheVariants as lacks
+use Rattle.git_date_tool.specs.declared.zones.NoZone.{NoZone as Lack}
+use Rattle.git_date_tool.specs.declared.zones.NoZone.TheVariants as lacks
 use Rattle.git_date_tool.specs.declared.zones.ZoneText.{ZoneText}
 
 -- the status that an end has
@@ -50,24 +48,19 @@ status_of (Shown why) = Usage
 
 -- one line, after the program's name
 abbrev pub message : List ℕ → List ℕ
-message words = with_newline (codes "git_date: " ++ words)
+message words = line_of (codes "git_date") words
 
 -- what is wrong, in one line, and the usage line
 abbrev pub usage_message : List ℕ → List ℕ
 usage_message why = message why ++ USAGE.now
 
--- the writer is a pipe that nothing reads any more
-abbrev pub is_closed_pipe : ToolError → Bool
-is_closed_pipe (errors.Write kinds.BrokenPipe) = true
-is_closed_pipe _ = false
-
--- what is said of a fault, unless it is such a pipe
-abbrev pub fault_message : ToolError → Option (List ℕ)
-fault_message fault = if is_closed_pipe fault then None else Some (message (fault_words fault ++ cause_words fault))
+-- this was said in one line, and then this text, or as much of it as was taken
+unfoldable pub Says : Change → List ℕ → List ℕ → Type 0
+Says telling why more = WritesMessage telling (message why ++ more)
 
 -- what is said of an end, where anything is
 abbrev pub message_of : Outcome → Option (List ℕ)
-message_of (Fault fault) = fault_message fault
+message_of (Fault fault) = fault_message (codes "git_date") fault
 message_of (Shown why) = Some (usage_message (wrong_words why))
 message_of Printed = None
 message_of NoClock = Some (message (codes "the clock cannot be read"))
@@ -159,7 +152,7 @@ StartsNot a NoClock = a.now ≡ None
 StartsNot a _ = ⊥
 
 -- what the program comes to that is asked to answer
-abbrev pub EndsRequest : Asked → Change → Output → Outcome → Type 0
+unfoldable pub EndsRequest : Asked → Change → Output → Outcome → Type 0
 EndsRequest a reading out outcome =
     ((query : Query) × IsQuery a query × EndsRun a query reading out outcome)
     ⊎ (IsUntouched reading × IsUntouched out.writing × IsUntouched out.telling × StartsNot a outcome)

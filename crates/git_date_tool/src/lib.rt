@@ -7,9 +7,9 @@ mod program;
 mod runs;
 mod zones;
 
-pub use answers::readers::{Reader, Strictness};
 pub use answers::refusals::Refusal;
-pub use answers::shown::{DateLine, NoWay, Shown, shown_named};
 pub use answers::warnings::{Numbered, Warning};
-pub use answers::{Answer, Query, answer_line};
+pub use answers::{
+    Answer, DateLine, NoWay, Query, Reader, Shown, Strictness, answer_line, shown_named,
+};
 pub use program::{execute, show_usage};

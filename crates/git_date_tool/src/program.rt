@@ -1,44 +1,33 @@
 //! What the program does with a command line.
 ghost use Rattle.std.specs.Prelude.{◌≡◌, ◌++◌, MatchResult, map, option_map, string_bytes};
 ghost use Rattle.jiff.specs.ZoneView.{plain_zone};
-ghost use Rattle.gix_date_tool.specs.Messages.{Reports, WritesMessage};
-ghost use Rattle.gix_date_tool.specs.Run.{change};
-ghost use Rattle.git_date_tool.specs.CommandLine.Command.{asked, request_view};
-ghost use Rattle.git_date_tool.specs.Program.{EndsCommand, EndsRequest, EndsRun, Executes, IsMomentIn, IsNoMoment, IsNoQuery, IsQuery, Prints, RunsAs, ShowsUsage, are_several, end_of, fault_message, is_closed_pipe, message_of, numbered_of, status_of, usage_message, without_zone};
-ghost use Rattle.git_date_tool.specs.Runs.Runs.{output};
-ghost use Rattle.git_date_tool.specs.CommandLine.Wrong.{about, wrong_words};
-ghost use Rattle.git_date_tool.specs.Zones.Zones.{IsAskedZone};
+ghost use Rattle.git_date_tool.specs.declared.program.help.TheConstants.{USAGE};
+ghost use Rattle.git_date_tool.specs as Spec;
+ghost use Rattle.streams.specs as Streams;
+ghost use Rattle.std.specs.Result.{result_map_both};
 
 pub(crate) mod arguments;
 mod help;
-mod now;
-mod outcome;
 mod wrong;
 
-use crate::answers::Query;
-use crate::answers::readers::{Reader, Strictness};
-use crate::answers::shown::Shown;
 use crate::answers::warnings::Numbered;
+use crate::answers::{Query, Reader, Shown, Strictness};
 use crate::program::arguments::{Command, Request, read_words};
 use crate::program::help::{HELP, USAGE, VERSION};
-use crate::program::now::instant_of;
-use crate::program::outcome::{NoNow, Outcome};
 use crate::program::wrong::{WrongWords, place_digits};
-use crate::runs::session::Verdict;
-use crate::runs::{run_over, run_through};
-use crate::zones::files::NoZone;
-use crate::zones::{ZoneText, zone_source, zone_text};
+use crate::runs::{Verdict, run_over, run_through};
+use crate::zones::{NoZone, ZoneText, zone_source, zone_text};
+use git_date::{ReadDate, parse_date_at};
 use gix_date::Zoned;
-use gix_date::device::{Sink, Source, put_all};
-use gix_date_tool::{Status, ToolError, write_message};
+use gix_date::device::{Sink, Source};
 use jiff::Timestamp;
 use jiff::tz::TimeZone;
 use std::alloc::Global;
 use std::env;
 use std::env::VarError;
-use std::io::ErrorKind;
 use std::rt::{Env, Files};
 use std::time::Clock;
+use streams::{NoMoment, Status, ToolError, print, tell_fault, write_message};
 
 /// Does what the words of a command line, without the program's name, ask for: answers each text, or each line of the reader
 /// if there is no text, or writes the help or the version. Of wrong words it says which and why, and how it is called.
@@ -62,9 +51,9 @@ pub fn execute<S: Files + Env + Clock + AllocGlobal, R: Source, W: Sink, M: Sink
     writer: &mut W,
     messages: &mut M,
 ) -> Status
-    ensures { Executes (map string_bytes words.now) (change (R.known reader.old) (R.known reader.new))
-        (change (W.known writer.old) (W.known writer.new))
-        (change (M.known messages.old) (M.known messages.new)) result }
+    ensures { Spec.Executes (map string_bytes words.now) (Streams.change (R.known reader.old) (R.known reader.new))
+        (Streams.change (W.known writer.old) (W.known writer.new))
+        (Streams.change (M.known messages.old) (M.known messages.new)) result }
 {
     let tz = env::var(system, "TZ");
     let outcome = dispatch(system, words, &tz, reader, writer, messages);
@@ -73,8 +62,9 @@ pub fn execute<S: Files + Env + Clock + AllocGlobal, R: Source, W: Sink, M: Sink
 }
 
 /// Says that a word of the command line is not UTF-8, and how the program is called.
+#[tactic(auto, unfolding(crate::specs::Says))]
 pub fn show_usage<M: Sink>(messages: &mut M) -> Status
-    ensures { ShowsUsage (change (M.known messages.old) (M.known messages.new)) result }
+    ensures { Spec.ShowsUsage (Streams.change (M.known messages.old) (M.known messages.new)) result }
 {
     tell_wrong(WrongWords::NotText, messages);
     Status::Usage
@@ -89,21 +79,22 @@ fn dispatch<'w, S: Files + Env + Clock + AllocGlobal, R: Source, W: Sink, M: Sin
     writer: &mut W,
     messages: &mut M,
 ) -> Outcome<'w>
-    ensures { EndsCommand (asked (map string_bytes words.now)) (change (R.known reader.old) (R.known reader.new))
-        (output (change (W.known writer.old) (W.known writer.new))
-        (change (M.known messages.old) (M.known messages.new))) result }
+    ensures { Spec.EndsCommand (Spec.asked (map string_bytes words.now)) (Streams.change (R.known reader.old) (R.known reader.new))
+        (Spec.output (Streams.change (W.known writer.old) (W.known writer.new))
+        (Streams.change (M.known messages.old) (M.known messages.new))) result }
 {
     match read_words(words) {
         Ok(Command::Answer(request)) => execute_request(
             system, request, tz, reader, writer, messages,
         ),
-        Ok(Command::Help) => print(HELP, writer),
-        Ok(Command::Version) => print(VERSION, writer),
+        Ok(Command::Help) => show(HELP, writer),
+        Ok(Command::Version) => show(VERSION, writer),
         Err(why) => Outcome::Shown(why),
     }
 }
 
 /// Does what is asked for, but for the message of its end.
+#[tactic(auto, using(crate::proofs::AskedZones::taken_is), unfolding(crate::specs::EndsRequest))]
 fn execute_request<'w, S: Files + Env + Clock + AllocGlobal, R: Source, W: Sink, M: Sink>(
     system: &S,
     request: Request<'w>,
@@ -112,9 +103,9 @@ fn execute_request<'w, S: Files + Env + Clock + AllocGlobal, R: Source, W: Sink,
     writer: &mut W,
     messages: &mut M,
 ) -> Outcome<'w>
-    ensures { EndsRequest (request_view request.entry) (change (R.known reader.old) (R.known reader.new))
-        (output (change (W.known writer.old) (W.known writer.new))
-        (change (M.known messages.old) (M.known messages.new))) result }
+    ensures { Spec.EndsRequest (Spec.request_view request.entry) (Streams.change (R.known reader.old) (R.known reader.new))
+        (Spec.output (Streams.change (W.known writer.old) (W.known writer.new))
+        (Streams.change (M.known messages.old) (M.known messages.new))) result }
 {
     let text = zone_text(request.zone, tz);
     let source = match zone_source(system, text) {
@@ -138,9 +129,9 @@ fn run<'w, R: Source, W: Sink, M: Sink>(
     writer: &mut W,
     messages: &mut M,
 ) -> Outcome<'w>
-    ensures { EndsRun (request_view request.entry) query.entry.now (change (R.known reader.old) (R.known reader.new))
-        (output (change (W.known writer.old) (W.known writer.new))
-        (change (M.known messages.old) (M.known messages.new))) result }
+    ensures { Spec.EndsRun (Spec.request_view request.entry) query.entry.now (Streams.change (R.known reader.old) (R.known reader.new))
+        (Spec.output (Streams.change (W.known writer.old) (W.known writer.new))
+        (Streams.change (M.known messages.old) (M.known messages.new))) result }
 {
     let ran = run_as(alloc, request.texts, query, reader, writer, messages);
     end_of(request.texts, ran)
@@ -155,9 +146,9 @@ fn run_as<R: Source, W: Sink, M: Sink>(
     writer: &mut W,
     messages: &mut M,
 ) -> Result<Verdict, ToolError>
-    ensures { RunsAs (map string_bytes texts.now) query.entry.now (change (R.known reader.old) (R.known reader.new))
-        (output (change (W.known writer.old) (W.known writer.new))
-        (change (M.known messages.old) (M.known messages.new))) result }
+    ensures { Spec.RunsAs (map string_bytes texts.now) query.entry.now (Streams.change (R.known reader.old) (R.known reader.new))
+        (Spec.output (Streams.change (W.known writer.old) (W.known writer.new))
+        (Streams.change (M.known messages.old) (M.known messages.new))) result }
 {
     if texts.is_empty() {
         run_through(alloc, query, reader, writer, messages)
@@ -169,7 +160,7 @@ fn run_as<R: Source, W: Sink, M: Sink>(
 /// How a run over these texts ends, or over lines if there is no text. Where a word of several texts was not understood, a quote
 /// may be missing.
 fn end_of<'w>(texts: &[String], ran: Result<Verdict, ToolError>) -> Outcome<'w>
-    ensures { result ≡ end_of (map string_bytes texts.now) ran }
+    ensures { result ≡ Spec.end_of (map string_bytes texts.now) ran }
 {
     let verdict = match ran {
         Ok(verdict) => verdict,
@@ -183,13 +174,9 @@ fn end_of<'w>(texts: &[String], ran: Result<Verdict, ToolError>) -> Outcome<'w>
 
 /// Whether there are more texts than one.
 fn are_several(texts: &[String]) -> bool
-    ensures { result ≡ are_several (map string_bytes texts.now) }
+    ensures { result ≡ Spec.are_several (map string_bytes texts.now) }
 {
-    match texts {
-        [] => false,
-        [_] => false,
-        _ => true,
-    }
+    matches!(texts, [_, _, ..])
 }
 
 /// What is asked of each text, in a zone.
@@ -198,24 +185,22 @@ fn query_of<'w: 'z, 'z, S: Clock>(
     request: Request<'w>,
     zone: TimeZone<'z>,
 ) -> Result<Query<'z>, NoNow<'w>>
-    requires { IsAskedZone (request_view request).zone (plain_zone zone) }
-    ensures { MatchResult result (IsQuery (request_view request.entry)) (IsNoQuery (request_view request.entry)) }
+    requires { Spec.IsAskedZone (Spec.request_view request).zone (plain_zone zone) }
+    ensures { MatchResult result (Spec.IsQuery (Spec.request_view request.entry)) (Spec.IsNoQuery (Spec.request_view request.entry)) }
 {
-    match moment(system, request.now, zone) {
-        Ok(now) => Ok(Query {
-            reader: request.reader.unwrap_or(Reader::Approxidate),
-            shown: request.shown.unwrap_or(Shown::RAW),
-            now,
-            strictness: request.strictness.unwrap_or(Strictness::Usual),
-            numbered: numbered_of(request.texts),
-        }),
-        Err(why) => Err(why),
-    }
+    let now = moment(system, request.now, zone)?;
+    Ok(Query {
+        reader: request.reader.unwrap_or(Reader::Approxidate),
+        shown: request.shown.unwrap_or(Shown::RAW),
+        now,
+        strictness: request.strictness.unwrap_or(Strictness::Usual),
+        numbered: numbered_of(request.texts),
+    })
 }
 
 /// What warnings call the texts: those of the command line, or else lines.
 fn numbered_of(texts: &[String]) -> Numbered
-    ensures { result ≡ numbered_of (map string_bytes texts.now) }
+    ensures { result ≡ Spec.numbered_of (map string_bytes texts.now) }
 {
     match texts {
         [] => Numbered::Line,
@@ -225,7 +210,7 @@ fn numbered_of(texts: &[String]) -> Numbered
 
 /// Without a zone of a text: memory was refused, or its file was not read, or it says none.
 fn no_zone<'w>(text: ZoneText<'w>, why: NoZone) -> Outcome<'w>
-    ensures { result ≡ without_zone text.entry why }
+    ensures { result ≡ Spec.without_zone text.entry why }
 {
     match why {
         NoZone::Memory => Outcome::Fault(ToolError::Memory),
@@ -240,8 +225,8 @@ fn moment<'w, 'z, S: Clock>(
     now: Option<&'w str>,
     zone: TimeZone<'z>,
 ) -> Result<Zoned<'z>, NoNow<'w>>
-    ensures { MatchResult result (IsMomentIn (option_map (λ now. now.now) now.entry) (plain_zone zone.entry))
-        (IsNoMoment (option_map (λ now. now.now) now.entry) (plain_zone zone.entry)) }
+    ensures { MatchResult result (Spec.IsMomentIn (option_map (λ now. now.now) now.entry) (plain_zone zone.entry))
+        (Spec.IsNoMoment (option_map (λ now. now.now) now.entry) (plain_zone zone.entry)) }
 {
     match now {
         Some(text) => match instant_of(text, zone) {
@@ -256,21 +241,22 @@ fn moment<'w, 'z, S: Clock>(
 }
 
 /// Writes a text.
-fn print<'w, W: Sink>(text: &str, writer: &mut W) -> Outcome<'w>
-    ensures { Prints text.now (change (W.known writer.old) (W.known writer.new)) result }
+fn show<'w, W: Sink>(text: &str, writer: &mut W) -> Outcome<'w>
+    ensures { Spec.Prints text.now (Streams.change (W.known writer.old) (W.known writer.new)) result }
 {
-    match put_all(writer, text.as_bytes()) {
+    match print(text, writer) {
         Ok(()) => Outcome::Printed,
-        Err(kind) => Outcome::Fault(ToolError::Write(kind)),
+        Err(fault) => Outcome::Fault(fault),
     }
 }
 
 /// Says why the program ends so, where there is something to say.
+#[tactic(auto, using(crate::proofs::Reported::fault_reported, crate::proofs::Reported::shown_reported, crate::proofs::Reported::clock_reported, crate::proofs::Reported::quote_reported))]
 fn report<M: Sink>(outcome: &Outcome<'_>, messages: &mut M)
-    ensures { Reports (change (M.known messages.old) (M.known messages.new)) (message_of outcome.now) }
+    ensures { Streams.Reports (Streams.change (M.known messages.old) (M.known messages.new)) (Spec.message_of outcome.now) }
 {
     match outcome {
-        Outcome::Fault(fault) => tell_fault(fault, messages),
+        Outcome::Fault(fault) => tell_fault("git_date", fault, messages),
         Outcome::Shown(why) => tell_wrong(*why, messages),
         Outcome::NoClock => write_message(&["git_date: the clock cannot be read\n"], messages),
         Outcome::Unquoted(_) => write_message(
@@ -282,62 +268,49 @@ fn report<M: Sink>(outcome: &Outcome<'_>, messages: &mut M)
     }
 }
 
-/// Says in one line what fault a run has. That its reader wants no more, as `head`, is none that a user has to read.
-fn tell_fault<M: Sink>(fault: &ToolError, messages: &mut M)
-    ensures { Reports (change (M.known messages.old) (M.known messages.new)) (fault_message fault.now) }
-{
-    if !is_closed_pipe(fault) {
-        write_message(&["git_date: ", fault.text(), fault.cause(), "\n"], messages);
-    }
-}
-
-/// Whether the writer is a pipe that nothing reads any more.
-fn is_closed_pipe(fault: &ToolError) -> bool
-    ensures { result ≡ is_closed_pipe fault.now }
-{
-    matches!(fault, ToolError::Write(ErrorKind::BrokenPipe))
-}
-
 /// Says what is wrong with the command line, and how the program is called.
+#[tactic(auto, using(crate::proofs::Reported::wrong_told, crate::proofs::Reported::none_told))]
 fn tell_wrong<M: Sink>(why: WrongWords<'_>, messages: &mut M)
-    ensures { WritesMessage (change (M.known messages.old) (M.known messages.new)) (usage_message (wrong_words why.entry)) }
+    ensures { Spec.Says (Streams.change (M.known messages.old) (M.known messages.new)) (Spec.wrong_words why.entry) USAGE.now }
 {
     let mut digits = itoa::Buffer::new();
     let place = place_digits(why.place(), &mut digits);
     match why.subject() {
-        Some(word) => tell_about(word, why.lead(), place, why.text(), messages),
-        None => tell_usage(why.lead(), place, why.text(), messages),
+        Some(word) => tell_about(word, why.lead(), place, why.text(), USAGE, messages),
+        None => say(why.lead(), place, why.text(), USAGE, messages),
     }
 }
 
-/// Says of a word what is wrong with it, and how the program is called.
+/// Says of a word what is wrong with it, and then more.
+#[tactic(auto, using(crate::proofs::Reported::about_said))]
 fn tell_about<'a, M: Sink>(
     word: &'a str,
     lead: &'a str,
     place: &'a str,
     text: &'a str,
+    more: &'a str,
     messages: &mut M,
 )
-    ensures { WritesMessage (change (M.known messages.old) (M.known messages.new))
-        (usage_message (about word.now (lead.now ++ (place.now ++ text.now)))) }
+    ensures { Spec.Says (Streams.change (M.known messages.old) (M.known messages.new))
+        (Spec.about word.now (lead.now ++ (place.now ++ text.now))) more.now }
 {
     write_message(
-        &["git_date: '", word, "' ", lead, place, text, "\n", USAGE],
+        &["git_date: '", word, "' ", lead, place, text, "\n", more],
         messages,
     );
 }
 
-/// Says this, and how the program is called.
-fn tell_usage<'a, M: Sink>(lead: &'a str, place: &'a str, text: &'a str, messages: &mut M)
-    ensures { WritesMessage (change (M.known messages.old) (M.known messages.new))
-        (usage_message (lead.now ++ (place.now ++ text.now))) }
+/// Says this in one line after the program's name, and then more.
+#[tactic(auto, using(crate::proofs::Reported::said))]
+fn say<'a, M: Sink>(lead: &'a str, place: &'a str, text: &'a str, more: &'a str, messages: &mut M)
+    ensures { Spec.Says (Streams.change (M.known messages.old) (M.known messages.new)) (lead.now ++ (place.now ++ text.now)) more.now }
 {
-    write_message(&["git_date: ", lead, place, text, "\n", USAGE], messages);
+    write_message(&["git_date: ", lead, place, text, "\n", more], messages);
 }
 
 /// The status that an end has.
 fn status_of(outcome: &Outcome<'_>) -> Status
-    ensures { result ≡ status_of outcome.now }
+    ensures { result ≡ Spec.status_of outcome.now }
 {
     match outcome {
         Outcome::Printed => Status::Success,
@@ -348,5 +321,61 @@ fn status_of(outcome: &Outcome<'_>) -> Status
         Outcome::Fault(_) => Status::Failure,
         Outcome::NoClock => Status::Failure,
         Outcome::Shown(_) => Status::Usage,
+    }
+}
+
+/// How the program ends, before its status and message.
+#[derive(Drop)]
+pub(crate) enum Outcome<'w> {
+    /// Each text was answered. Whether all were read.
+    Answered(bool),
+    /// Each of several texts was answered, and a word of them was not understood: a quote may be missing. Whether all were read.
+    Unquoted(bool),
+    /// The run has this fault, or the writer refused the help or the version.
+    Fault(ToolError),
+    /// The clock was not read.
+    NoClock,
+    /// The help or the version was written.
+    Printed,
+    /// This is wrong with the command line.
+    Shown(WrongWords<'w>),
+}
+
+/// Why there is no moment.
+#[derive(Clone, Copy)]
+pub(crate) enum NoNow<'w> {
+    /// The clock was not read.
+    Clock,
+    /// NOW is no moment.
+    NoMoment(&'w str, NoMoment),
+}
+
+/// The instant of NOW: an exact date of Git of which nothing is ignored, in the zone if it names no offset, or else a date of
+/// gix-date that is not relative.
+///
+/// No exact date is ahead of the last instant, so that the text and the zone alone decide.
+pub(crate) fn instant_of(text: &str, zone: TimeZone<'_>) -> Result<Timestamp, NoMoment>
+    ensures { Spec.IsInstantOf (plain_zone zone.entry) text.now
+        (result_map_both (λ instant. instant.nanosecond) (λ why. why) result) }
+{
+    match parse_date_at(text.as_bytes(), Timestamp::MAX, zone) {
+        Ok(
+            ReadDate {
+                time,
+                ignored: None,
+                has_offset: _,
+            },
+        ) => instant_at(time.seconds),
+        _ => instant_at(streams::moment(text)?.seconds),
+    }
+}
+
+/// The instant of these seconds since 1970.
+fn instant_at(seconds: i64) -> Result<Timestamp, NoMoment>
+    ensures { Spec.IsInstantAt seconds (result_map_both (λ instant. instant.nanosecond) (λ why. why) result) }
+{
+    match Timestamp::from_second(seconds) {
+        Ok(instant) => Ok(instant),
+        Err(_) => Err(NoMoment::Conversion),
     }
 }

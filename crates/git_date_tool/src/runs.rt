@@ -1,18 +1,15 @@
 //! Runs over the words of a command line, and over the lines of a stream.
 ghost use Rattle.std.specs.Prelude.{◌≡◌, map, string_bytes};
-ghost use Rattle.gix_date_tool.specs.Run.{change};
-ghost use Rattle.git_date_tool.specs.Runs.Runs.{RunsOver, RunsThrough, ServesRead, line_read, output};
+ghost use Rattle.git_date_tool.specs as Spec;
+ghost use Rattle.streams.specs as Streams;
 
-mod line;
-mod reading;
-pub(crate) mod session;
-
-use crate::answers::Query;
-use crate::runs::reading::Lines;
-use crate::runs::session::{Verdict, serve};
+use crate::answers::{Query, answer_line};
 use gix_date::device::{Sink, Source};
-use gix_date_tool::{MAX_LINES, ToolError};
-use std::alloc::Global;
+use std::alloc::{AllocError, Global};
+use streams::{MAX_LINES, Server, ToolError, serve_lines};
+
+/// The last number that a text has in warnings.
+const LAST_NUMBER: u64 = u64::MAX;
 
 /// Answers each text by a line.
 pub(crate) fn run_over<W: Sink, M: Sink>(
@@ -22,23 +19,20 @@ pub(crate) fn run_over<W: Sink, M: Sink>(
     writer: &mut W,
     messages: &mut M,
 ) -> Result<Verdict, ToolError>
-    ensures { RunsOver query.entry.now (map string_bytes texts.now) (output (change (W.known writer.old) (W.known writer.new))
-        (change (M.known messages.old) (M.known messages.new))) result }
+    ensures { Spec.RunsOver query.entry.now (map string_bytes texts.now) (Spec.output (Streams.change (W.known writer.old) (W.known writer.new))
+        (Streams.change (M.known messages.old) (M.known messages.new))) result }
 {
-    let mut all = Verdict::first();
-    let mut before = 0;
+    let mut answering = Answering::new(alloc, *query);
     for text in texts {
-        let one = match serve(alloc, query, before + 1, text.as_bytes(), writer, messages) {
-            Ok(one) => one,
-            Err(fault) => return Err(fault),
-        };
-        all = all.with(one);
-        before += 1;
+        if let Err(fault) = answering.serve(text.as_bytes(), writer, messages) {
+            return Err(fault);
+        }
     }
-    Ok(all)
+    Ok(answering.verdict)
 }
 
-/// Answers each line of a reader by a line, before it reads more. After the last line that an input may have no byte may stand.
+/// Answers each line of a reader by a line, before it reads more.
+#[tactic(auto, using(crate::proofs::Answering::run_ended, crate::proofs::Answering::run_stopped))]
 pub(crate) fn run_through<R: Source, W: Sink, M: Sink>(
     alloc: Global,
     query: &Query<'_>,
@@ -46,60 +40,134 @@ pub(crate) fn run_through<R: Source, W: Sink, M: Sink>(
     writer: &mut W,
     messages: &mut M,
 ) -> Result<Verdict, ToolError>
-    ensures { RunsThrough query.entry.now (change (R.known reader.old) (R.known reader.new))
-        (output (change (W.known writer.old) (W.known writer.new))
-        (change (M.known messages.old) (M.known messages.new))) result }
+    ensures { Spec.RunsThrough query.entry.now (Streams.change (R.known reader.old) (R.known reader.new))
+        (Spec.output (Streams.change (W.known writer.old) (W.known writer.new))
+        (Streams.change (M.known messages.old) (M.known messages.new))) result }
 {
-    let mut lines = Lines::new();
-    let mut line = Vec::new(alloc);
-    let mut all = Verdict::first();
-    let mut count = 0;
-    'lines: while count < MAX_LINES {
-        let goes_on = match lines.next(reader, &mut line) {
-            Ok(goes_on) => goes_on,
-            Err(fault) => return Err(fault),
-        };
-        let number = count + 1;
-        let one = match serve_read(
-            alloc,
-            query,
-            number,
-            line.as_slice(),
-            goes_on,
-            writer,
-            messages,
-        ) {
-            Ok(one) => one,
-            Err(fault) => return Err(fault),
-        };
-        all = all.with(one);
-        if !goes_on {
-            return Ok(all);
-        }
-        count = number;
-    }
-    match lines.has_more(reader) {
-        Ok(false) => Ok(all),
-        Ok(true) => Err(ToolError::TooManyLines),
-        Err(fault) => Err(fault),
+    let mut answering = Answering::new(alloc, *query);
+    match serve_lines(alloc, MAX_LINES, &mut answering, reader, writer, messages) {
+        Ok(_) => Ok(answering.verdict),
+        Err(stop) => Err(stop.fault()),
     }
 }
 
-/// Answers a line that was read. What stands at the end of the input is none if no byte does.
-fn serve_read<W: Sink, M: Sink>(
+/// Answers texts, one after the other.
+#[derive(Clone, Copy)]
+struct Answering<'q> {
+    alloc: Global,
+    /// What is asked of each text.
+    query: Query<'q>,
+    /// The number of the next text, from 1.
+    number: u64,
+    /// What is known of those that were answered.
+    verdict: Verdict,
+}
+
+impl<'q> Answering<'q> {
+    /// No text was answered.
+    fn new(alloc: Global, query: Query<'q>) -> Answering<'q>
+        ensures turn { Spec.turn_of result ≡ Spec.first_turn query.entry }
+        ensures verdict { result.verdict ≡ Spec.first_verdict }
+    {
+        Answering {
+            alloc,
+            query,
+            number: 1,
+            verdict: Verdict::first(),
+        }
+    }
+}
+
+impl<'q> Server for Answering<'q> {
+    ghost serves = { Spec.AnswersTo };
+
+    ghost is_settled = { λ s. Unit {0} };
+
+    #[tactic(auto, using(crate::proofs::Answering::served, crate::proofs::Answering::unserved))]
+    fn serve<W: Sink, M: Sink>(
+        &mut self,
+        line: &[u8],
+        out: &mut W,
+        messages: &mut M,
+    ) -> Result<(), ToolError> {
+        let one = answer(self.alloc, &self.query, self.number, line, out, messages)?;
+        self.number = next_number(self.number);
+        self.verdict = self.verdict.with(one);
+        Ok(())
+    }
+
+    #[tactic(auto, using(crate::proofs::Answering::settled))]
+    fn settle<W: Sink>(&mut self, _out: &mut W) -> Result<(), ToolError> {
+        Ok(())
+    }
+
+    ghost stays = { Spec.no_lines };
+
+    ghost joins = { Spec.more_lines };
+}
+
+/// The number of the text after the one with this number. It stops at the last.
+fn next_number(number: u64) -> u64
+    ensures { result ≡ Spec.next_number number }
+{
+    if number == LAST_NUMBER {
+        number
+    } else {
+        number + 1
+    }
+}
+
+/// What is known of texts that were answered.
+#[derive(Clone, Copy)]
+pub(crate) struct Verdict {
+    /// Whether each was read, and its date can be shown.
+    pub(crate) all_read: bool,
+    /// Whether each word of them was understood.
+    pub(crate) all_clear: bool,
+}
+
+impl Verdict {
+    /// That of no text.
+    pub(crate) fn first() -> Verdict
+        ensures { result ≡ Spec.first_verdict }
+    {
+        Verdict {
+            all_read: true,
+            all_clear: true,
+        }
+    }
+
+    /// That of more texts.
+    pub(crate) fn with(self, more: Verdict) -> Verdict
+        ensures { result ≡ Spec.both self more }
+    {
+        Verdict {
+            all_read: self.all_read && more.all_read,
+            all_clear: self.all_clear && more.all_clear,
+        }
+    }
+}
+
+/// Answers the text with this number by a line, and by a warning where one is due.
+#[tactic(auto, using(crate::proofs::Answering::answered, crate::proofs::Answering::unwritten, crate::proofs::Answering::unanswered))]
+fn answer<W: Sink, M: Sink>(
     alloc: Global,
     query: &Query<'_>,
     number: u64,
-    line: &[u8],
-    is_ended: bool,
+    text: &[u8],
     writer: &mut W,
     messages: &mut M,
 ) -> Result<Verdict, ToolError>
-    ensures { ServesRead query.entry.now number (line_read is_ended line.now) (output (change (W.known writer.old) (W.known writer.new))
-        (change (M.known messages.old) (M.known messages.new))) result }
+    ensures { Spec.Serves query.entry.now number text.now (Spec.output (Streams.change (W.known writer.old) (W.known writer.new))
+        (Streams.change (M.known messages.old) (M.known messages.new))) result }
 {
-    match (is_ended, line) {
-        (false, []) => Ok(Verdict::first()),
-        _ => serve(alloc, query, number, line, writer, messages),
-    }
+    let Ok(answer) = answer_line(alloc, query, text) else {
+        return Err(ToolError::Memory);
+    };
+    answer.put(writer).map_err(ToolError::Write)?;
+    answer.warn(query.numbered, number, messages);
+    Ok(Verdict {
+        all_read: answer.is_date(),
+        all_clear: answer.is_clear(),
+    })
 }

@@ -3,9 +3,9 @@
 
 use git_date_tool::{execute, show_usage};
 use gix_date::device::Device;
-use gix_date_tool::{Status, words};
 use std::alloc::AllocError;
 use std::process::ExitCode;
+use streams::{Status, words};
 
 fn main(rt: HostRuntime) -> ExitCode {
     let mut reader = Device::new(rt.stdin());

@@ -8,7 +8,7 @@ use Rattle.std.proofs.lemmas.List.Sums.{take_while-cons}
 use Rattle.std.specs.List.{flat_map}
 use Rattle.std.specs.Prelude.{All, take_while}
 use Rattle.gix_date.specs.Text.Characters.{newline}
-use Rattle.gix_date_tool.specs.Lines.{IsLine, with_newline}
+use Rattle.streams.specs.Lines.{IsLine, with_newline}
 use Rattle.gix_signature.specs.Ident.Bytes.{is_newline}
 use Rattle.git_ident_tool.specs.Judging.{IsFilledLine}
 use Rattle.git_ident_tool.specs.Objects.{is_filled, own_header}

@@ -9,11 +9,11 @@ use Rattle.std.specs.Io.KnownBytes.{Appends}
 use Rattle.std.specs.List.{flat_map, list_all}
 use Rattle.gix_date.specs.Devices.StreamState.{StreamState, Gives, Takes, TakesProperPrefix}
 use Rattle.gix_date.specs.Text.Characters.{newline}
-use Rattle.gix_date_tool.specs.Lines.{IsLine, last_line, with_newline}
-use Rattle.gix_date_tool.specs.Run.{Change, change}
-use Rattle.gix_date_tool.proofs.Reading.{Consumes-append, Consumes-nil}
-use Rattle.gix_date_tool.specs.declared.error.ToolError.{ToolError}
-use Rattle.gix_date_tool.specs.declared.error.ToolError.TheVariants as errors
+use Rattle.streams.specs.Lines.{IsLine, last_line, with_newline}
+use Rattle.streams.specs.Changes.{Change, change}
+use Rattle.streams.proofs.Running.{Consumes-append, Consumes-nil}
+use Rattle.streams.specs.declared.error.ToolError.{ToolError}
+use Rattle.streams.specs.declared.error.ToolError.TheVariants as errors
 use Rattle.git_ident_tool.specs.Cursor.{ReadsLine}
 use Rattle.git_ident_tool.specs.Judging.{Flow, flow, lines_due, are_clean, objects_due, is_clean_object, Wrote, IsFilledLine, JudgesAll, JudgesPart, IsOfInput}
 use Rattle.git_ident_tool.specs.Objects.{Object, IsObject, has_own_header, lines_of, own_header, stream_text}
@@ -22,7 +22,7 @@ use Rattle.git_ident_tool.specs.declared.error.Fault.{Fault}
 use Rattle.git_ident_tool.specs.declared.error.Fault.TheVariants.{Tool, Refused, Stream}
 use Rattle.git_ident_tool.specs.declared.error.StreamFault.TheVariants.{EarlyEnd}
 use Rattle.git_ident_tool.specs.declared.judging.verdicts.Telling.{Telling}
-use Rattle.git_ident_tool.specs.declared.stream.cursor.LineEnd.TheVariants.{Newline, Full, Input}
+use Rattle.git_ident_tool.specs.declared.stream.LineEnd.TheVariants.{Newline, Full, Input}
 use Rattle.git_ident_tool.specs.declared.stream.header.Header.{Header}
 use Rattle.git_ident_tool.specs.declared.stream.header.Kind.{Kind}
 use Rattle.git_ident_tool.specs.declared.stream.header.Kind.TheVariants.{Commit, Tag, Tree, Blob}
@@ -289,3 +289,10 @@ own-with (b ∷ bs) filled part lines whole each =
 pub own-without : (line : List ℕ) → IsLine line → (part : List ℕ) (lines : List (List ℕ)) → part ≡ flat_map with_newline lines → All IsFilledLine lines
     → own_header (part ++ line) ≡ lines ++ last_line line
 own-without line is_line part lines whole each = grind (arith, own-lines, own-rest)
+
+-- where there are no lines nothing is told
+pub and_yes : (b : Bool) → (b && true) ≡ b
+and_yes true = refl
+and_yes false = refl
+
+pub ruleset nothing_done = (Appends-nil, and_yes)

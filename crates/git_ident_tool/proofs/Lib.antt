@@ -1,7 +1,7 @@
 pub mod Headers
 pub mod Taking
 pub mod Judged
+pub mod Served
 pub mod Streams
-pub mod Lines
 pub mod Reported
 pub mod Rows

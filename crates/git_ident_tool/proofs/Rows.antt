@@ -10,8 +10,8 @@ use Rattle.git_ident_tool.specs.Objects.{Object, object_text, own_header, read_h
 use Rattle.git_ident_tool.specs.Verdicts.{line_due, text_due}
 use Rattle.git_ident_tool.specs.declared.error.HeaderFault.TheVariants.{BadHeader, BadSize, NoObject}
 use Rattle.git_ident_tool.specs.declared.judging.verdicts.Telling.TheVariants.{Faults, All}
-use Rattle.git_ident_tool.specs.declared.program.arguments.Command.TheVariants.{Help, Judge}
-use Rattle.git_ident_tool.specs.declared.program.arguments.WrongWords.TheVariants.{NoOption}
+use Rattle.git_ident_tool.specs.declared.program.Command.TheVariants.{Help, Judge}
+use Rattle.git_ident_tool.specs.declared.program.WrongWords.TheVariants.{NoOption}
 use Rattle.git_ident_tool.specs.declared.stream.header.Kind.TheVariants.{Blob, Commit, Tag, Tree}
 
 -- ---- headers

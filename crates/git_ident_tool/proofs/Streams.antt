@@ -10,21 +10,22 @@ use Rattle.std.specs.Io.KnownBytes.{Consumes, IsAtEnd, prepend_known}
 use Rattle.std.specs.List.{list_all}
 use Rattle.gix_date.specs.Devices.StreamState.{StreamState, Gives, Takes}
 use Rattle.gix_date.specs.Text.Characters.{newline}
-use Rattle.gix_date_tool.specs.Lines.{IsLine, with_newline}
-use Rattle.gix_date_tool.specs.Run.{change}
-use Rattle.gix_date_tool.proofs.Reading.{Consumes-nil}
-use Rattle.gix_date_tool.specs.declared.error.ToolError.{ToolError}
-use Rattle.gix_date_tool.specs.declared.error.ToolError.TheVariants as errors
-use Rattle.gix_date_tool.specs.declared.runs.lines.TheConstants.{MAX_LINE_LEN}
+use Rattle.streams.specs.Lines.{IsLine, with_newline}
+use Rattle.streams.specs.Changes.{change}
+use Rattle.streams.proofs.Running.{Consumes-nil}
+use Rattle.streams.specs.declared.error.ToolError.{ToolError}
+use Rattle.streams.specs.declared.error.ToolError.TheVariants as errors
+use Rattle.streams.specs.declared.lines.TheConstants.{MAX_LINE_LEN}
 use Rattle.git_ident_tool.specs.Cursor.{ReadsLine, Skips}
 use Rattle.git_ident_tool.specs.Judging.{flow, lines_due, are_clean, object_due, objects_due, is_clean_object, Wrote, Causes, StopsWithin, JudgesAll, JudgesPart, IsBeyond, IsOfInput, SkipsRest, StopsInRest, broken_due, JudgesWhole, BreaksObject, JudgesObject, InHeader, AtHeader, AfterHeader, StopsAfterObjects, StopsHeader, id_of}
 use Rattle.git_ident_tool.specs.Objects.{Object, IsObject, lines_of, object_text, read_header, stream_text}
 use Rattle.git_ident_tool.specs.declared.error.Fault.{Fault}
 use Rattle.git_ident_tool.specs.declared.error.Fault.TheVariants.{Tool, Refused, Stream}
 use Rattle.git_ident_tool.specs.declared.error.StreamFault.TheVariants.{BadEnd, EarlyEnd, TooMany}
-use Rattle.git_ident_tool.specs.declared.judging.objects.TheConstants.{MAX_OBJECTS}
+use Rattle.git_ident_tool.specs.declared.judging.TheConstants.{MAX_OBJECTS}
 use Rattle.git_ident_tool.specs.declared.judging.verdicts.Telling.{Telling}
-use Rattle.git_ident_tool.specs.declared.stream.cursor.LineEnd.TheVariants.{Newline, Full}
+use Rattle.git_ident_tool.specs.declared.stream.LineEnd.{LineEnd}
+use Rattle.git_ident_tool.specs.declared.stream.LineEnd.TheVariants.{Newline, Full}
 use Rattle.git_ident_tool.specs.declared.stream.header.Header.{Header}
 use Rattle.git_ident_tool.proofs.Judged.{ObjectsSoFar, Appends-nil, Gives-more, Takes-more, Wrote-more, Wrote-all}
 
@@ -41,19 +42,23 @@ one-byte [] is_line h = absurd (omega (arith, h))
 one-byte (b ∷ []) is_line h = (b, All-head (λ x. x ≢ newline) b [] is_line, refl)
 one-byte (b ∷ c ∷ cs) is_line h = absurd (omega (arith, h))
 
-pub skips-to-byte : (left : ℕ) (a b c : StreamState) (line : List ℕ) → Skips left a b (Ok true) → ReadsLine 1 b c line (Ok Full) → StopsInRest left (change a c) (Stream BadEnd)
-skips-to-byte left a b c line h read = record {
-  rest = h.bytes;
-  beyond = line;
-  given = Gives-more a b c h.bytes line h.given read.ends.0;
-  within = omega (arith, h.ends);
-  is_beyond = (h.ends, one-byte line read.is_line read.ends.1);
-  of_input = tt;
-  cause = tt;
-}
+pub skips_to_byte : (left : ℕ) (a b c : StreamState) (line : List ℕ) (all : Bool) (end : LineEnd) → Skips left a b (Ok all) → all ≡ true
+    → ReadsLine 1 b c line (Ok end) → end ≡ Full → StopsInRest left (change a c) (Stream BadEnd)
+skips_to_byte left a b c line all end skipped e ended f =
+    let h = subst (λ all. Skips left a b (Ok all)) e skipped in
+    let read = subst (λ end. ReadsLine 1 b c line (Ok end)) f ended in
+    record {
+      rest = h.bytes;
+      beyond = line;
+      given = Gives-more a b c h.bytes line h.given read.ends.0;
+      within = omega (arith, h.ends);
+      is_beyond = (h.ends, one-byte line read.is_line read.ends.1);
+      of_input = tt;
+      cause = tt;
+    }
 
 -- a fault came at that byte, which was not read
-pub skips-to-fault : (left : ℕ) (a b c : StreamState) (line : List ℕ) (fault : ToolError) → Skips left a b (Ok true) → ReadsLine 1 b c line (Err fault)
+skips-to-fault : (left : ℕ) (a b c : StreamState) (line : List ℕ) (fault : ToolError) → Skips left a b (Ok true) → ReadsLine 1 b c line (Err fault)
     → StopsInRest left (change a c) (Tool fault)
 skips-to-fault left a b c line errors.Memory h read = grind (arith, nat_tests, common_steps, no-bytes)
 skips-to-fault left a b c line (errors.Read kind) h read = grind (arith, nat_tests, common_steps, no-bytes)
@@ -61,12 +66,16 @@ skips-to-fault left a b c line (errors.Write kind) h read = absurd read.ends
 skips-to-fault left a b c line errors.LineTooLong h read = absurd read.ends
 skips-to-fault left a b c line errors.TooManyLines h read = absurd read.ends
 
+pub skips_to_fault : (left : ℕ) (a b c : StreamState) (line : List ℕ) (all : Bool) (fault : ToolError) → Skips left a b (Ok all) → all ≡ true
+    → ReadsLine 1 b c line (Err fault) → StopsInRest left (change a c) (Tool fault)
+skips_to_fault left a b c line all fault skipped e read = skips-to-fault left a b c line fault (subst (λ all. Skips left a b (Ok all)) e skipped) read
+
 -- ---- an object
 
-pub judges-object : (telling : Telling) (header id : List ℕ) (said : Header) (a b c x y : StreamState) (clean : Bool) (left : ℕ) → id ≡ id_of header → read_header header ≡ Ok said
-    → JudgesAll telling id said (flow (change a b) (change x y)) (clean, left) → SkipsRest left (change b c)
-    → JudgesWhole telling header (flow (change a c) (change x y)) clean
-judges-object telling header id said a b c x y clean left is says h skipped =
+pub judges_object : (telling : Telling) (header id : List ℕ) (said : Header) (a b c x y : StreamState) (answer : Bool × ℕ) → id ≡ id_of header → read_header header ≡ Ok said
+    → JudgesAll telling id said (flow (change a b) (change x y)) answer → SkipsRest answer.1 (change b c)
+    → JudgesWhole telling header (flow (change a c) (change x y)) answer.0
+judges_object telling header id said a b c x y answer is says h skipped =
     let contents = h.part ++ skipped.rest in
     let long : length contents ≡ said.size = omega (arith, length-append h.part skipped.rest, h.counted, skipped.all) in
     let lines = sym (h.settled skipped.rest long) in
@@ -88,9 +97,9 @@ none-beyond (Refused why) size part lines h = refl
 none-beyond (Stream BadEnd) size part lines h = absurd h
 none-beyond (Stream TooMany) size part lines h = refl
 
-pub breaks-lines : (telling : Telling) (header id : List ℕ) (said : Header) (a b x y : StreamState) (fault : Fault) → id ≡ id_of header → read_header header ≡ Ok said
+pub breaks_lines : (telling : Telling) (header id : List ℕ) (said : Header) (a b x y : StreamState) (fault : Fault) → id ≡ id_of header → read_header header ≡ Ok said
     → JudgesPart telling id said (flow (change a b) (change x y)) fault → BreaksObject telling header (flow (change a b) (change x y)) fault
-breaks-lines telling header id said a b x y fault is says h = record {
+breaks_lines telling header id said a b x y fault is says h = record {
   broken = record {
     said = said;
     says = says;
@@ -114,10 +123,10 @@ beyond-all (Refused why) left size part rest beyond counted h = h
 beyond-all (Stream TooMany) left size part rest beyond counted h = h
 beyond-all (Stream BadEnd) left size part rest beyond counted h = (omega (arith, length-append part rest, counted, h.0), h.1)
 
-pub breaks-rest : (telling : Telling) (header id : List ℕ) (said : Header) (a b c x y : StreamState) (clean : Bool) (left : ℕ) (fault : Fault) → id ≡ id_of header → read_header header ≡ Ok said
-    → JudgesAll telling id said (flow (change a b) (change x y)) (clean, left) → StopsInRest left (change b c) fault
+pub breaks_rest : (telling : Telling) (header id : List ℕ) (said : Header) (a b c x y : StreamState) (answer : Bool × ℕ) (fault : Fault) → id ≡ id_of header → read_header header ≡ Ok said
+    → JudgesAll telling id said (flow (change a b) (change x y)) answer → StopsInRest answer.1 (change b c) fault
     → BreaksObject telling header (flow (change a c) (change x y)) fault
-breaks-rest telling header id said a b c x y clean left fault is says h stops = record {
+breaks_rest telling header id said a b c x y answer fault is says h stops = record {
   broken = record {
     said = said;
     says = says;
@@ -125,7 +134,7 @@ breaks-rest telling header id said a b c x y clean left fault is says h stops = 
     beyond = stops.beyond;
     lines = h.lines;
     within = omega (arith, length-append h.part stops.rest, h.counted, stops.within);
-    is_beyond = beyond-all fault left said.size h.part stops.rest stops.beyond h.counted stops.is_beyond;
+    is_beyond = beyond-all fault answer.1 said.size h.part stops.rest stops.beyond h.counted stops.is_beyond;
     stops = inr (λ more fits. ap (lines_of said.kind) (append_assoc h.part stops.rest more)
         ∙ h.settled (stops.rest ++ more) (ap length (sym (append_assoc h.part stops.rest more)) ∙ fits));
   };

@@ -7,9 +7,9 @@ use Rattle.std.specs.Io.KnownBytes.{Consumes, IsAtEnd, Keeps, prepend_known}
 use Rattle.std.specs.declared.io.ErrorKind.{ErrorKind}
 use Rattle.gix_date.specs.Text.Characters.{newline}
 use Rattle.gix_date.specs.Devices.StreamState.{StreamState, Gives}
-use Rattle.gix_date_tool.specs.Lines.{IsLine}
+use Rattle.streams.specs.Lines.{IsLine}
 use Rattle.git_ident_tool.specs.Cursor.{ReadsLine, Refills, Skips, TakesEnd, TakesFront}
-use Rattle.git_ident_tool.specs.declared.stream.cursor.LineEnd.TheVariants.{Full}
+use Rattle.git_ident_tool.specs.declared.stream.LineEnd.TheVariants.{Full}
 
 -- an input of which this is unread
 abbrev pub at : List ℕ → StreamState → StreamState
@@ -42,7 +42,7 @@ pub front-cut : (text front rest : List ℕ) (n : ℕ) → text ≡ front ++ res
 front-cut text front rest n e is = grind (arith, drop_front)
 
 -- the unread bytes begin with a line and its newline
-pub takes-end : (most : ℕ) (text next line longer part after : List ℕ) → take most text ≡ part ++ newline ∷ after → IsLine part → longer ≡ line ++ part
+takes-end : (most : ℕ) (text next line longer part after : List ℕ) → take most text ≡ part ++ newline ∷ after → IsLine part → longer ≡ line ++ part
     → next ≡ drop (length part + 1) text → TakesEnd most (record { unread = text; line = line }) (record { unread = next; line = longer })
 takes-end most text next line longer part after cut is_line grown left =
     let front = part ++ newline ∷ [] in
@@ -60,17 +60,36 @@ takes-end most text next line longer part after cut is_line grown left =
     }
 
 -- they are a front of a line
-pub takes-front : (most : ℕ) (text next line longer front : List ℕ) → front ≡ take most text → IsLine front → longer ≡ line ++ front
+takes-front : (most : ℕ) (text next line longer front : List ℕ) → front ≡ take most text → IsLine front → longer ≡ line ++ front
     → next ≡ drop (length front) text → TakesFront most (record { unread = text; line = line }) (record { unread = next; line = longer })
 takes-front most text next line longer front is is_line grown left = grind (arith, nat_tests, common_steps, front-cut, take-append-drop, length-take, drop_all)
 
 -- the unread bytes have room for a line and its newline
-pub has-room : (bytes : List ℕ) (from to most : ℕ) (part after : List ℕ) → from ≤ to → to ≤ length bytes
+has-room : (bytes : List ℕ) (from to most : ℕ) (part after : List ℕ) → from ≤ to → to ≤ length bytes
     → take most (take (to - from) (drop from bytes)) ≡ part ++ newline ∷ after → from + (length part + 1) ≤ to
 has-room bytes from to most part after in_order within cut =
     let text = take (to - from) (drop from bytes) in
     let count : length (take most text) ≡ length part + length (newline ∷ after) = ap length cut ∙ length-append part (newline ∷ after) in
     omega (arith, count, length-take most text, unread-length bytes from to in_order within)
+
+pub end_taken : (bytes : List ℕ) (from to most : ℕ) (line longer front part after : List ℕ) → from ≤ to → to ≤ length bytes
+    → front ≡ take most (take (to - from) (drop from bytes)) → front ≡ part ++ newline ∷ after → IsLine part → longer ≡ line ++ part
+    → TakesEnd most (record { unread = take (to - from) (drop from bytes); line = line })
+    (record { unread = take (to - (from + (length part + 1))) (drop (from + (length part + 1)) bytes); line = longer })
+end_taken bytes from to most line longer front part after in_order within is cut is_line grown =
+    let cut = sym is ∙ cut in
+    takes-end most (take (to - from) (drop from bytes)) _ line longer part after cut is_line grown
+    (unread-after bytes from to (length part + 1) (has-room bytes from to most part after in_order within cut))
+
+pub front_taken : (bytes : List ℕ) (from to most : ℕ) (line longer front : List ℕ) → from ≤ to → to ≤ length bytes
+    → front ≡ take most (take (to - from) (drop from bytes)) → IsLine front → longer ≡ line ++ front
+    → TakesFront most (record { unread = take (to - from) (drop from bytes); line = line })
+    (record { unread = take (to - (from + length front)) (drop (from + length front) bytes); line = longer })
+front_taken bytes from to most line longer front in_order within is is_line grown =
+    let text = take (to - from) (drop from bytes) in
+    takes-front most text _ line longer front is is_line grown
+    (unread-after bytes from to (length front)
+    (let room : from + length front ≤ to = omega (arith, ap length is, length-take most text, unread-length bytes from to in_order within, in_order) in room))
 
 taken-left : (known : Option (List ℕ)) (text next used : List ℕ) → text ≡ used ++ next → Consumes (prepend_known text known) (prepend_known next known) used
 taken-left None text next used e = tt
@@ -142,3 +161,9 @@ skips-last count first source text next left few is h = record {
       (sym (take-append-drop left text) ∙ ap (λ (xs : List ℕ). take left text ++ xs) (sym is));
   ends = omega (arith, length-append h.bytes (take left text), length-take left text, h.counted, few);
 }
+
+pub advanced : (bytes : List ℕ) (from to used place : ℕ) → from ≤ to → to ≤ length bytes → used ≤ length (take (to - from) (drop from bytes))
+    → place ≡ to - ((to - from) - used) → take (to - place) (drop place bytes) ≡ drop used (take (to - from) (drop from bytes))
+advanced bytes from to used place in_order within few is =
+    let fits : from + used ≤ to = omega (arith, few, unread-length bytes from to in_order within, in_order) in
+    ap (λ (n : ℕ). take (to - n) (drop n bytes)) is ∙ unread-advanced bytes from to used fits

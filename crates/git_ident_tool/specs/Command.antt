@@ -2,13 +2,13 @@
 use Rattle.std.specs.Prelude.{ℕ, true, false, List, [], ◌∷◌, Result, Ok, Err, if◌then◌else◌, codes}
 use Rattle.std.specs.Str.{bytes_eq}
 use Rattle.git_ident_tool.specs.declared.judging.verdicts.Telling.TheVariants.{Faults, All}
-use Rattle.git_ident_tool.specs.declared.program.arguments.Command.{Command}
-use Rattle.git_ident_tool.specs.declared.program.arguments.Command.TheVariants.{Judge, Help, Version}
-use Rattle.git_ident_tool.specs.declared.program.arguments.Request.{Request}
-use Rattle.git_ident_tool.specs.declared.program.arguments.Step.{Step}
-use Rattle.git_ident_tool.specs.declared.program.arguments.Step.TheVariants.{On, Instead, Wrong}
-use Rattle.git_ident_tool.specs.declared.program.arguments.WrongWords.{WrongWords}
-use Rattle.git_ident_tool.specs.declared.program.arguments.WrongWords.TheVariants.{NoOption}
+use Rattle.git_ident_tool.specs.declared.program.Command.{Command}
+use Rattle.git_ident_tool.specs.declared.program.Command.TheVariants.{Judge, Help, Version}
+use Rattle.git_ident_tool.specs.declared.program.Request.{Request}
+use Rattle.git_ident_tool.specs.declared.program.Step.{Step}
+use Rattle.git_ident_tool.specs.declared.program.Step.TheVariants.{On, Instead, Wrong}
+use Rattle.git_ident_tool.specs.declared.program.WrongWords.{WrongWords}
+use Rattle.git_ident_tool.specs.declared.program.WrongWords.TheVariants.{NoOption}
 
 -- what a word comes to after others, by which this is asked
 abbrev pub step_of : Request → List ℕ → Step

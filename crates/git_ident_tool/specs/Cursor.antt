@@ -3,12 +3,12 @@ use Rattle.std.specs.Prelude.{◌≡◌, ◌<◌, ◌≤◌, ℕ, ◌-◌, Bool,
 use Rattle.std.specs.Io.KnownBytes.{Keeps, prepend_known}
 use Rattle.std.specs.declared.io.ErrorKind.{ErrorKind}
 use Rattle.gix_date.specs.Devices.StreamState.{StreamState, Gives, HasEnded}
-use Rattle.gix_date_tool.specs.Lines.{IsLine, with_newline}
-use Rattle.gix_date_tool.specs.declared.error.ToolError.{ToolError}
-use Rattle.gix_date_tool.specs.declared.error.ToolError.TheVariants as errors
-use Rattle.git_ident_tool.specs.declared.stream.cursor.Cursor.{Cursor}
-use Rattle.git_ident_tool.specs.declared.stream.cursor.LineEnd.{LineEnd}
-use Rattle.git_ident_tool.specs.declared.stream.cursor.LineEnd.TheVariants.{Newline, Full, Input}
+use Rattle.streams.specs.Lines.{IsLine, with_newline}
+use Rattle.streams.specs.declared.error.ToolError.{ToolError}
+use Rattle.streams.specs.declared.error.ToolError.TheVariants as errors
+use Rattle.git_ident_tool.specs.declared.stream.Cursor.{Cursor}
+use Rattle.git_ident_tool.specs.declared.stream.LineEnd.{LineEnd}
+use Rattle.git_ident_tool.specs.declared.stream.LineEnd.TheVariants.{Newline, Full, Input}
 
 -- what was read and is not taken yet
 abbrev pub unread : Cursor → List ℕ

@@ -1,7 +1,7 @@
 -- What is said of a fault.
-use Rattle.std.specs.Prelude.{ℕ, List, [], codes}
-use Rattle.gix_date_tool.specs.Messages.{cause_words}
-use Rattle.gix_date_tool.specs.Messages as messages
+use Rattle.std.specs.Prelude.{ℕ, List, Option, Some, codes}
+use Rattle.streams.specs.Messages.{message}
+use Rattle.streams.specs.Messages as streams
 use Rattle.git_ident_tool.specs.declared.error.Fault.{Fault}
 use Rattle.git_ident_tool.specs.declared.error.Fault.TheVariants.{Tool, Refused, Stream}
 use Rattle.git_ident_tool.specs.declared.error.HeaderFault.{HeaderFault}
@@ -21,14 +21,8 @@ stream_words BadEnd = codes "no newline stands after an object"
 stream_words EarlyEnd = codes "the input ends within an object"
 stream_words TooMany = codes "there are more than 18446744073709551615 objects or lines"
 
--- what has failed
-abbrev pub fault_words : Fault → List ℕ
-fault_words (Tool fault) = messages.fault_words fault
-fault_words (Refused why) = header_words why
-fault_words (Stream why) = stream_words why
-
--- what the fault of a reader or writer is called, and nothing of another
-abbrev pub fault_cause : Fault → List ℕ
-fault_cause (Tool fault) = cause_words fault
-fault_cause (Refused why) = []
-fault_cause (Stream why) = []
+-- what is said of a fault
+abbrev pub fault_message : Fault → Option (List ℕ)
+fault_message (Tool fault) = streams.fault_message (codes "git_ident") fault
+fault_message (Refused why) = Some (message (codes "git_ident") (header_words why))
+fault_message (Stream why) = Some (message (codes "git_ident") (stream_words why))

@@ -3,10 +3,10 @@ use Rattle.std.specs.Prelude.{◌≡◌, ◌≢◌, ◌⊎◌, ◌<◌, ◌≤�
 use Rattle.std.specs.List.{before_first, flat_map, list_all}
 use Rattle.gix_date.specs.Devices.StreamState.{StreamState, Gives, Takes, TakesProperPrefix}
 use Rattle.gix_date.specs.Text.Characters.{is_space, newline}
-use Rattle.gix_date_tool.specs.Lines.{IsLine, with_newline}
-use Rattle.gix_date_tool.specs.Run.{Change}
-use Rattle.gix_date_tool.specs.declared.error.ToolError.TheVariants as errors
-use Rattle.gix_date_tool.specs.declared.runs.lines.TheConstants.{MAX_LINE_LEN}
+use Rattle.streams.specs.Lines.{IsLine, with_newline}
+use Rattle.streams.specs.Changes.{Change}
+use Rattle.streams.specs.declared.error.ToolError.TheVariants as errors
+use Rattle.streams.specs.declared.lines.TheConstants.{MAX_LINE_LEN}
 use Rattle.git_ident_tool.specs.Cursor.{IsOver}
 use Rattle.git_ident_tool.specs.Objects.{Object, IsObject, lines_of, own_header, read_header, stream_text}
 use Rattle.git_ident_tool.specs.Verdicts.{line_due, is_clean_in}
@@ -15,7 +15,7 @@ use Rattle.git_ident_tool.specs.declared.error.Fault.TheVariants.{Tool, Refused,
 use Rattle.git_ident_tool.specs.declared.error.HeaderFault.{HeaderFault}
 use Rattle.git_ident_tool.specs.declared.error.HeaderFault.TheVariants.{BadHeader}
 use Rattle.git_ident_tool.specs.declared.error.StreamFault.TheVariants.{BadEnd, EarlyEnd, TooMany}
-use Rattle.git_ident_tool.specs.declared.judging.objects.TheConstants.{MAX_OBJECTS}
+use Rattle.git_ident_tool.specs.declared.judging.TheConstants.{MAX_OBJECTS}
 use Rattle.git_ident_tool.specs.declared.judging.verdicts.Telling.{Telling}
 use Rattle.git_ident_tool.specs.declared.stream.header.Header.{Header}
 use Rattle.git_ident_tool.specs.declared.stream.header.Kind.{Kind}
@@ -25,6 +25,7 @@ pub record Flow : Type 0 where
   pub reading : Change
   pub writing : Change
 
+-- what was read and what was written
 abbrev pub flow : Change → Change → Flow
 flow reading writing = record { reading = reading; writing = writing }
 

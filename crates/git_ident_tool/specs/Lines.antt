@@ -1,68 +1,58 @@
 -- The lines of an input judged, which stand in no object.
-use Rattle.std.specs.Prelude.{◌≡◌, ◌⊎◌, ℕ, ◌+◌, Bool, ◌&&◌, List, [], ◌∷◌, ◌++◌, length, Some, Result, Ok, Err}
+use Rattle.std.specs.Prelude.{◌≡◌, ℕ, Bool, ◌&&◌, List, [], ◌∷◌, ◌++◌, Some, Result, Ok, Err}
 use Rattle.std.specs.List.{flat_map, list_all}
-use Rattle.gix_date.specs.Devices.StreamState.{Gives, Takes, TakesProperPrefix}
-use Rattle.gix_date_tool.specs.Lines.{Splits, last_line}
-use Rattle.gix_date_tool.specs.Run.{Change}
-use Rattle.gix_date_tool.specs.declared.error.ToolError.TheVariants as errors
-use Rattle.gix_date_tool.specs.declared.runs.lines.TheConstants.{MAX_LINE_LEN}
-use Rattle.git_ident_tool.specs.Cursor.{IsOver}
-use Rattle.git_ident_tool.specs.Judging.{Causes, Flow, Wrote}
+use Rattle.gix_date.specs.Devices.StreamState.{Takes, TakesProperPrefix}
+use Rattle.streams.specs.Changes.{Change, change}
+use Rattle.streams.specs.Serving.{Answer, Ran, Service, fault_of}
+use Rattle.streams.specs.declared.error.ToolError.{ToolError}
+use Rattle.streams.specs.declared.error.ToolError.TheVariants as errors
+use Rattle.streams.specs.declared.serving.Stop.{Stop}
+use Rattle.streams.specs.declared.serving.Stop.TheVariants.{Reading}
+use Rattle.git_ident_tool.specs.Judging.{Flow}
 use Rattle.git_ident_tool.specs.Verdicts.{is_clean, text_due}
 use Rattle.git_ident_tool.specs.declared.error.Fault.{Fault}
 use Rattle.git_ident_tool.specs.declared.error.Fault.TheVariants.{Tool, Stream}
 use Rattle.git_ident_tool.specs.declared.error.StreamFault.TheVariants.{TooMany}
-use Rattle.git_ident_tool.specs.declared.judging.objects.TheConstants.{MAX_OBJECTS}
+use Rattle.git_ident_tool.specs.declared.judging.Judging.{Judging}
+use Rattle.git_ident_tool.specs.declared.judging.TheConstants.{MAX_OBJECTS}
 use Rattle.git_ident_tool.specs.declared.judging.verdicts.Telling.{Telling}
 
 -- what is due for lines
 abbrev pub texts_due : Telling → List (List ℕ) → List ℕ
 texts_due telling lines = flat_map (text_due telling) lines
 
--- What judging what stands after the last newline comes to, after lines that are all clean or not: it is a line if it has a byte. Without
--- memory nothing is written.
-abbrev pub JudgesRest : Telling → List ℕ → Bool → Change → Result Bool Fault → Type 0
-JudgesRest telling rest clean writing (Ok all) =
-    Takes writing.old writing.new (texts_due telling (last_line rest)) × (all ≡ (clean && list_all is_clean (last_line rest)))
-JudgesRest telling rest clean writing (Err (Tool (errors.Write kind))) =
-    TakesProperPrefix writing.old writing.new (texts_due telling (last_line rest)) × (writing.new.fault ≡ Some kind)
-JudgesRest telling rest clean writing (Err (Tool errors.Memory)) = writing.new ≡ writing.old
-JudgesRest telling rest clean writing (Err _) = ⊥
+-- A fault came at the last of some lines: the writer refused, and took a proper prefix of what is due; or without memory nothing was
+-- written of that line.
+abbrev pub BreaksAt : Telling → Change → List (List ℕ) → ToolError → Type 0
+BreaksAt telling writing lines (errors.Write kind) =
+    TakesProperPrefix writing.old writing.new (texts_due telling lines) × (writing.new.fault ≡ Some kind)
+BreaksAt telling writing lines errors.Memory =
+    (judged : List (List ℕ)) × (line : List ℕ) × (lines ≡ judged ++ line ∷ []) × Takes writing.old writing.new (texts_due telling judged)
+BreaksAt telling writing lines _ = ⊥
 
--- all lines were judged, the last too, if it has a byte but no newline
-pub record JudgesAllLines (telling : Telling) (f : Flow) (clean : Bool) : Type 0 where
-  pub input : List ℕ
-  pub lines : List (List ℕ)
-  pub rest : List ℕ
-  pub splits : Splits input lines rest
-  pub given : Gives f.reading.old f.reading.new input
-  pub over : IsOver f.reading.new
-  pub wrote : Takes f.writing.old f.writing.new (texts_due telling (lines ++ last_line rest))
-  pub clean_is : clean ≡ list_all is_clean (lines ++ last_line rest)
+-- what judging the lines that are due comes to, all of them clean or not
+abbrev pub JudgesTexts : Telling → Change → Bool → List (List ℕ) → Answer → Type 0
+JudgesTexts telling writing clean lines (Ok _) = Takes writing.old writing.new (texts_due telling lines) × (clean ≡ list_all is_clean lines)
+JudgesTexts telling writing clean lines (Err fault) = BreaksAt telling writing lines fault
 
--- the lines that were judged where a fault came, of those that had ended, and of the rest
-abbrev pub StopsLines : Fault → List (List ℕ) → List ℕ → List (List ℕ) → Type 0
-StopsLines (Tool errors.Memory) lines rest judged = (judged ≡ lines) ⊎ ((line : List ℕ) × (judged ++ line ∷ [] ≡ lines))
-StopsLines (Tool (errors.Read kind)) lines rest judged = judged ≡ lines
-StopsLines (Tool (errors.Write kind)) lines rest judged = (judged ≡ lines) ⊎ (judged ≡ lines ++ last_line rest)
-StopsLines (Tool errors.LineTooLong) lines rest judged = (judged ≡ lines) × (length rest ≡ MAX_LINE_LEN + 1)
-StopsLines (Stream TooMany) lines rest judged = (judged ≡ lines) × (rest ≡ []) × (length lines ≡ MAX_OBJECTS)
-StopsLines _ lines rest judged = ⊥
+-- the fault of an end
+abbrev pub fault_in : Stop → Fault
+fault_in (Reading errors.TooManyLines) = Stream TooMany
+fault_in stop = Tool (fault_of stop)
 
--- A fault came after this part of the input. What was read ahead is not looked at.
-pub record StopsAfterLines (telling : Telling) (f : Flow) (fault : Fault) : Type 0 where
-  pub input : List ℕ
-  pub lines : List (List ℕ)
-  pub rest : List ℕ
-  pub ahead : List ℕ
-  pub judged : List (List ℕ)
-  pub splits : Splits input lines rest
-  pub given : Gives f.reading.old f.reading.new (input ++ ahead)
-  pub stops : StopsLines fault lines rest judged
-  pub wrote : Wrote f.writing (texts_due telling judged) fault
-  pub cause : Causes f.reading.new fault
+-- what that comes to, by the end of a run over lines
+abbrev pub result_of : Bool → Result ℕ Stop → Result Bool Fault
+result_of clean (Ok count) = Ok clean
+result_of clean (Err stop) = Err (fault_in stop)
 
--- what judging the lines of an input comes to
-abbrev pub JudgesLines : Telling → Flow → Result Bool Fault → Type 0
-JudgesLines telling f (Ok clean) = JudgesAllLines telling f clean
-JudgesLines telling f (Err fault) = StopsAfterLines telling f fault
+-- What judging the lines of an input comes to: those that are due were judged.
+unfoldable pub JudgesLines : Telling → Flow → Result Bool Fault → Type 0
+JudgesLines telling f result =
+    (ended : Result ℕ Stop) × (clean : Bool) × Ran (JudgesTexts telling f.writing clean) (Unit {0}) MAX_OBJECTS f.reading ended × (result ≡ result_of clean ended)
+
+-- what judging some lines comes to, after others
+abbrev pub JudgesTo : Service Judging → Service Judging → List (List ℕ) → Answer → Type 0
+JudgesTo old new lines (Ok _) =
+    Takes old.out new.out (texts_due old.server.judge.telling lines)
+    × (new.server ≡ record old.server { clean = old.server.clean && list_all is_clean lines })
+JudgesTo old new lines (Err fault) = BreaksAt old.server.judge.telling (change old.out new.out) lines fault

@@ -4,7 +4,7 @@ use Rattle.std.specs.Char.{is_ascii_digit}
 use Rattle.std.specs.List.{after_first, find, flat_map, list_all, slice_split, starts_with, ends_with}
 use Rattle.std.specs.Str.Parse.{digits_value}
 use Rattle.gix_date.specs.Text.Characters.{is_space}
-use Rattle.gix_date_tool.specs.Lines.{IsLine, with_newline}
+use Rattle.streams.specs.Lines.{IsLine, with_newline}
 use Rattle.gix_signature.specs.Ident.Bytes.{is_newline}
 use Rattle.gix_signature.specs.Ident.Times.{held_number}
 use Rattle.git_ident_tool.specs.declared.error.HeaderFault.{HeaderFault}

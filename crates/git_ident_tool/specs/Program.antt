@@ -1,27 +1,25 @@
 -- What the program does with a command line.
 use Rattle.std.specs.Prelude.{◌≡◌, ℕ, Bool, true, false, List, ◌++◌, if◌then◌else◌, Option, Some, None, Result, Ok, Err, codes}
 use Rattle.gix_date.specs.Devices.StreamState.{Takes, TakesProperPrefix}
-use Rattle.gix_date_tool.specs.Lines.{with_newline}
-use Rattle.gix_date_tool.specs.Messages.{Reports}
-use Rattle.gix_date_tool.specs.Run.{Change}
-use Rattle.gix_date_tool.specs.declared.error.ToolError.TheVariants as errors
-use Rattle.gix_date_tool.specs.declared.program.Status.{Status}
-use Rattle.gix_date_tool.specs.declared.program.Status.TheVariants.{Success, Failure, Usage}
-use Rattle.std.specs.declared.io.ErrorKind.TheVariants as kinds
+use Rattle.streams.specs.Messages.{Reports, WritesMessage, message}
+use Rattle.streams.specs.Changes.{Change}
+use Rattle.streams.specs.declared.error.ToolError.TheVariants as errors
+use Rattle.streams.specs.declared.program.Status.{Status}
+use Rattle.streams.specs.declared.program.Status.TheVariants.{Success, Failure, Usage}
 use Rattle.git_ident_tool.specs.Command.{asked}
-use Rattle.git_ident_tool.specs.Faults.{fault_words, fault_cause}
+use Rattle.git_ident_tool.specs.Faults.{fault_message}
 use Rattle.git_ident_tool.specs.Judging.{Flow, JudgesStream}
 use Rattle.git_ident_tool.specs.Lines.{JudgesLines}
 use Rattle.git_ident_tool.specs.declared.error.Fault.{Fault}
 use Rattle.git_ident_tool.specs.declared.error.Fault.TheVariants.{Tool}
-use Rattle.git_ident_tool.specs.declared.program.arguments.Command.{Command}
-use Rattle.git_ident_tool.specs.declared.program.arguments.Command.TheVariants.{Judge, Help, Version}
-use Rattle.git_ident_tool.specs.declared.program.arguments.WrongWords.{WrongWords}
-use Rattle.git_ident_tool.specs.declared.program.arguments.WrongWords.TheVariants.{NoOption, NotText}
+use Rattle.git_ident_tool.specs.declared.program.Command.{Command}
+use Rattle.git_ident_tool.specs.declared.program.Command.TheVariants.{Judge, Help, Version}
+use Rattle.git_ident_tool.specs.declared.program.WrongWords.{WrongWords}
+use Rattle.git_ident_tool.specs.declared.program.WrongWords.TheVariants.{NoOption, NotText}
 use Rattle.git_ident_tool.specs.declared.program.help.TheConstants.{HELP, USAGE, VERSION}
 use Rattle.git_ident_tool.specs.declared.judging.verdicts.Telling.{Telling}
-use Rattle.git_ident_tool.specs.declared.program.outcome.Outcome.{Outcome}
-use Rattle.git_ident_tool.specs.declared.program.outcome.Outcome.TheVariants.{Judged, Failed, Printed, Shown}
+use Rattle.git_ident_tool.specs.declared.program.Outcome.{Outcome}
+use Rattle.git_ident_tool.specs.declared.program.Outcome.TheVariants.{Judged, Failed, Printed, Shown}
 
 -- the status that an end has: a fault, and a line that is not clean, have the same
 abbrev pub status_of : Outcome → Status
@@ -31,27 +29,18 @@ status_of (Judged false) = Failure
 status_of (Failed fault) = Failure
 status_of (Shown why) = Usage
 
--- one line, after the program's name
-abbrev pub message : List ℕ → List ℕ
-message words = with_newline (codes "git_ident: " ++ words)
-
 -- what is wrong with the words
 abbrev pub wrong_words : WrongWords → List ℕ
 wrong_words NoOption = codes "a word is no option"
 wrong_words NotText = codes "a word is not UTF-8"
 
+-- these words were said in one line, and then this text, or as much of it as was taken
+unfoldable pub Says : Change → List ℕ → List ℕ → Type 0
+Says telling words more = WritesMessage telling (message (codes "git_ident") words ++ more)
+
 -- that in one line, and the usage line
 abbrev pub usage_message : WrongWords → List ℕ
-usage_message why = message (wrong_words why) ++ USAGE.now
-
--- the writer is a pipe that nothing reads any more
-abbrev pub is_closed_pipe : Fault → Bool
-is_closed_pipe (Tool (errors.Write kinds.BrokenPipe)) = true
-is_closed_pipe _ = false
-
--- what is said of a fault, unless it is such a pipe
-abbrev pub fault_message : Fault → Option (List ℕ)
-fault_message fault = if is_closed_pipe fault then None else Some (message (fault_words fault ++ fault_cause fault))
+usage_message why = message (codes "git_ident") (wrong_words why) ++ USAGE.now
 
 -- what is said of an end, where anything is
 abbrev pub message_of : Outcome → Option (List ℕ)

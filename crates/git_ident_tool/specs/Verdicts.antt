@@ -4,9 +4,9 @@ use Rattle.std.specs.List.{find}
 use Rattle.std.specs.Option.{is_some, option_map_or}
 use Rattle.gix_date.specs.Devices.StreamState.{Takes, TakesProperPrefix}
 use Rattle.gix_date.specs.Text.Characters.{newline}
-use Rattle.gix_date_tool.specs.Run.{Change}
-use Rattle.gix_date_tool.specs.declared.error.ToolError.{ToolError}
-use Rattle.gix_date_tool.specs.declared.error.ToolError.TheVariants as errors
+use Rattle.streams.specs.Changes.{Change}
+use Rattle.streams.specs.declared.error.ToolError.{ToolError}
+use Rattle.streams.specs.declared.error.ToolError.TheVariants as errors
 use Rattle.gix_signature.specs.Ident.Fsck.{fsck_of}
 use Rattle.gix_signature.specs.declared.fsck.FsckId.{FsckId}
 use Rattle.gix_signature.specs.declared.fsck.FsckId.TheVariants.{NulInHeader, MissingNameBeforeEmail, BadName, MissingEmail, MissingSpaceBeforeEmail, BadEmail, MissingSpaceBeforeDate, ZeroPaddedDate, BadDateOverflow, BadDate, BadTimezone}

@@ -1,8 +1,8 @@
 //! Why a run ends before the end of its input.
 ghost use Rattle.std.specs.Prelude.{◌≡◌};
-ghost use Rattle.git_ident_tool.specs.Faults.{fault_words, fault_cause, header_words, stream_words};
+ghost use Rattle.git_ident_tool.specs as Spec;
 
-use gix_date_tool::ToolError;
+use streams::ToolError;
 
 /// Why a run ends before the end of its input.
 #[derive(Debug, Drop)]
@@ -13,30 +13,6 @@ pub enum Fault {
     Refused(HeaderFault),
     /// The input is no stream of objects.
     Stream(StreamFault),
-}
-
-impl Fault {
-    /// What has failed.
-    pub fn text(&self) -> &'static str
-        ensures { result.now ≡ fault_words self.now }
-    {
-        match self {
-            Fault::Tool(fault) => fault.text(),
-            Fault::Refused(why) => why.text(),
-            Fault::Stream(why) => why.text(),
-        }
-    }
-
-    /// What the fault of a reader or writer is called, and nothing of another.
-    pub fn cause(&self) -> &'static str
-        ensures { result.now ≡ fault_cause self.now }
-    {
-        match self {
-            Fault::Tool(fault) => fault.cause(),
-            Fault::Refused(_) => "",
-            Fault::Stream(_) => "",
-        }
-    }
 }
 
 /// Why a line is no header of an object, as `git cat-file --batch` prints it: an id, a kind and a size.
@@ -62,8 +38,8 @@ pub enum StreamFault {
 }
 
 impl HeaderFault {
-    fn text(self) -> &'static str
-        ensures { result.now ≡ header_words self }
+    pub(crate) fn text(self) -> &'static str
+        ensures { result.now ≡ Spec.header_words self }
     {
         match self {
             HeaderFault::BadHeader => "a line is no header of an object",
@@ -74,8 +50,8 @@ impl HeaderFault {
 }
 
 impl StreamFault {
-    fn text(self) -> &'static str
-        ensures { result.now ≡ stream_words self }
+    pub(crate) fn text(self) -> &'static str
+        ensures { result.now ≡ Spec.stream_words self }
     {
         match self {
             StreamFault::BadEnd => "no newline stands after an object",

@@ -7,6 +7,6 @@ mod program;
 mod stream;
 
 pub use error::{Fault, HeaderFault, StreamFault};
-pub use judging::objects::Judge;
+pub use judging::Judge;
 pub use judging::verdicts::Telling;
 pub use program::{execute, show_usage};

@@ -1,6 +1,5 @@
 pub mod Failures
-pub mod Fronts
 pub mod Unzoned
-pub mod Zones
 pub mod Clear
 pub mod WholeWords
+pub mod LeftTexts

@@ -17,10 +17,7 @@ pub fn text_of(bytes: &[u8]) -> Option<&str>
     if fast_ascii(bytes) {
         return Some(unsafe { str::from_utf8_unchecked(bytes) });
     }
-    match str::from_utf8(bytes) {
-        Ok(text) => Some(text),
-        Err(_) => None,
-    }
+    str::from_utf8(bytes).ok()
 }
 
 /// Whether four to 128 bytes are ASCII. Of others it says no.

@@ -1,8 +1,7 @@
 //! Dates and clocks as texts say them, and the instants that they are.
 ghost use Rattle.std.specs.Prelude.{◌≡◌, pos};
 ghost use Rattle.jiff.specs.Words.{IsOffsetSeconds};
-ghost use Rattle.gix_date.specs.Fields.Civil.{is_date, civil_instant, DateFits, ClockFits};
-ghost use Rattle.gix_date.specs.Families.Patterns.{midnight};
+ghost use Rattle.gix_date.specs as Spec;
 
 use crate::time::{FIRST_SECOND, LAST_SECOND, OffsetInSeconds, SecondsSinceUnixEpoch};
 use jiff::civil::{Date, DateTime};
@@ -38,10 +37,10 @@ pub(crate) fn civil_instant(
     clock: ClockFields,
     offset: OffsetInSeconds,
 ) -> Option<SecondsSinceUnixEpoch>
-    requires date { DateFits date }
-    requires clock { ClockFits clock }
+    requires date { Spec.DateFits date }
+    requires clock { Spec.ClockFits clock }
     requires offset { IsOffsetSeconds offset }
-    ensures { result ≡ civil_instant date clock offset }
+    ensures { result ≡ Spec.civil_instant date clock offset }
 {
     instant_at(date, clock, offset)
 }
@@ -49,8 +48,8 @@ pub(crate) fn civil_instant(
 /// The instant of a day's midnight in UTC: the constant clock leaves less to compute.
 #[inline(always)]
 pub(crate) fn midnight_instant(date: DateFields) -> Option<SecondsSinceUnixEpoch>
-    requires { DateFits date }
-    ensures { result ≡ civil_instant date midnight (pos 0) }
+    requires { Spec.DateFits date }
+    ensures { result ≡ Spec.civil_instant date Spec.midnight (pos 0) }
 {
     instant_at(date, MIDNIGHT, 0)
 }
@@ -62,10 +61,10 @@ pub(crate) fn instant_at(
     clock: ClockFields,
     offset: OffsetInSeconds,
 ) -> Option<SecondsSinceUnixEpoch>
-    requires date { DateFits date }
-    requires clock { ClockFits clock }
+    requires date { Spec.DateFits date }
+    requires clock { Spec.ClockFits clock }
     requires offset { IsOffsetSeconds offset }
-    ensures { result ≡ civil_instant date clock offset }
+    ensures { result ≡ Spec.civil_instant date clock offset }
 {
     let (year, month, day) = (date.year as i16, date.month as i8, date.day as i8);
     let (hour, minute, second) = (clock.hour as i8, clock.minute as i8, clock.second as i8);
@@ -82,8 +81,8 @@ pub(crate) fn instant_at(
 
 /// Whether the calendar has this day.
 pub(crate) fn is_date(date: DateFields) -> bool
-    requires { DateFits date }
-    ensures { result ≡ is_date date }
+    requires { Spec.DateFits date }
+    ensures { result ≡ Spec.is_date date }
 {
     Date::new(date.year as i16, date.month as i8, date.day as i8).is_ok()
 }

@@ -110,6 +110,7 @@ impl<T: Read> Source for Device<T> {
 ///
 /// If the sink refuses, it has taken a proper prefix of the text, and the answer is its fault. Takes no memory of its
 /// own.
+#[tactic(auto, using(crate::proofs::Text::KnownBytes::appends_take))]
 pub fn put_all<W: Sink>(out: &mut W, text: &[u8]) -> Result<(), io::ErrorKind>
     ensures ok { OnOk result (Takes (W.known out.old) (W.known out.new) text.now) }
     ensures cut { OnErr result (TakesProperPrefix (W.known out.old) (W.known out.new) text.now) }

@@ -122,10 +122,7 @@ impl InputBytes {
     fn as_text(&self) -> &str
         ensures { result.now ≡ shown_text self.now }
     {
-        match str::from_utf8(self.as_bytes()) {
-            Ok(text) => text,
-            Err(_) => "not text",
-        }
+        str::from_utf8(self.as_bytes()).unwrap_or("not text")
     }
 }
 

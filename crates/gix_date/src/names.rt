@@ -6,14 +6,13 @@ ghost use Rattle.std.specs.Prelude.{◌≡◌, ◌<◌, length, map, option_map,
 ghost use Rattle.std.specs.List.{find};
 ghost use Rattle.std.specs.Str.{bytes_eq};
 ghost use Rattle.std.specs.Int.{IsInRange};
-ghost use Rattle.gix_date.specs.Text.Names.{day_name, is_name, month_name, name_row, value_named};
-ghost use Rattle.gix_date.specs.Text.LongNames.{begins, month_by, month_told, weekday_by, weekday_told};
+ghost use Rattle.gix_date.specs as Spec;
 
 /// The name of a month in three letters, from 1 for January.
 #[inline(always)]
 pub fn month_name(month: u8) -> &'static str
     requires { IsInRange 1 12 month }
-    ensures name { result.now ≡ month_name month }
+    ensures name { result.now ≡ Spec.month_name month }
     ensures len { length result.now ≡ 3 }
 {
     match month {
@@ -37,7 +36,7 @@ pub fn month_name(month: u8) -> &'static str
 #[inline(always)]
 pub fn day_name(weekday: u8) -> &'static str
     requires { weekday < 7 }
-    ensures name { result.now ≡ day_name weekday }
+    ensures name { result.now ≡ Spec.day_name weekday }
     ensures len { length result.now ≡ 3 }
 {
     match weekday {
@@ -53,8 +52,9 @@ pub fn day_name(weekday: u8) -> &'static str
 }
 
 /// The value beside the first of these names that a word is, in the same letter case.
+#[tactic(auto, using(crate::proofs::Text::LongNames::value_is))]
 pub fn value_named<T: Copy>(rows: &[(&str, T)], word: &str) -> Option<T>
-    ensures { result ≡ value_named (map name_row rows.now) word.now }
+    ensures { result ≡ Spec.value_named (map Spec.name_row rows.now) word.now }
 {
     value_in(rows, word)
 }
@@ -70,7 +70,7 @@ fn value_in<T: Copy>(rows: &[(&str, T)], word: &str) -> Option<T>
 /// Whether a word is this name, in any letter case. Nearly all that are not differ in the first letter.
 #[inline(always)]
 pub fn is_name(word: &[u8], name: &[u8]) -> bool
-    ensures { result ≡ is_name word.now name.now }
+    ensures { result ≡ Spec.is_name word.now name.now }
 {
     match (word, name) {
         ([a, ..], [b, ..]) => a.eq_ignore_ascii_case(b) && word.eq_ignore_ascii_case(name),
@@ -81,7 +81,7 @@ pub fn is_name(word: &[u8], name: &[u8]) -> bool
 /// Whether a word is the front of a name, in any letter case.
 #[inline(always)]
 pub fn begins(word: &[u8], name: &[u8]) -> bool
-    ensures { result ≡ begins word.now name.now }
+    ensures { result ≡ Spec.begins word.now name.now }
 {
     word.len() <= name.len() && is_name(word, &name[..word.len()])
 }
@@ -89,7 +89,7 @@ pub fn begins(word: &[u8], name: &[u8]) -> bool
 /// So many, if letters begin the end of a name.
 #[inline(always)]
 fn if_begins(letters: &[u8], end: &[u8], n: u8) -> Option<u8>
-    ensures { result ≡ (if begins letters.now end.now then Some n else None) }
+    ensures { result ≡ (if Spec.begins letters.now end.now then Some n else None) }
 {
     if begins(letters, end) { Some(n) } else { None }
 }
@@ -97,7 +97,7 @@ fn if_begins(letters: &[u8], end: &[u8], n: u8) -> Option<u8>
 /// The month whose name begins with three small letters, and goes on so.
 #[inline(always)]
 fn month_by(u: u8, v: u8, w: u8, end: &[u8]) -> Option<u8>
-    ensures { result ≡ month_by u v w end.now }
+    ensures { result ≡ Spec.month_by u v w end.now }
 {
     match (u, v, w) {
         (b'j', b'a', b'n') => if_begins(end, b"uary", 1),
@@ -120,7 +120,7 @@ fn month_by(u: u8, v: u8, w: u8, end: &[u8]) -> Option<u8>
 #[tactic(auto, using(crate::proofs::Text::LongNames::no_month, crate::proofs::Text::LongNames::month_found, crate::proofs::Text::LongNames::month_in_range))]
 #[inline(always)]
 pub fn month_told(word: &[u8]) -> Option<u8>
-    ensures value { result ≡ month_told word.now }
+    ensures value { result ≡ Spec.month_told word.now }
     ensures small { IfSome result (λ month. IsInRange 1 12 month) }
 {
     match word {
@@ -137,7 +137,7 @@ pub fn month_told(word: &[u8]) -> Option<u8>
 /// The day of the week whose name begins with three small letters, and goes on so.
 #[inline(always)]
 fn weekday_by(u: u8, v: u8, w: u8, end: &[u8]) -> Option<u8>
-    ensures { result ≡ weekday_by u v w end.now }
+    ensures { result ≡ Spec.weekday_by u v w end.now }
 {
     match (u, v, w) {
         (b'm', b'o', b'n') => if_begins(end, b"days", 0),
@@ -156,7 +156,7 @@ fn weekday_by(u: u8, v: u8, w: u8, end: &[u8]) -> Option<u8>
 #[tactic(auto, using(crate::proofs::Text::LongNames::no_weekday, crate::proofs::Text::LongNames::weekday_found, crate::proofs::Text::LongNames::weekday_in_range))]
 #[inline(always)]
 pub fn weekday_told(word: &[u8]) -> Option<u8>
-    ensures value { result ≡ weekday_told word.now }
+    ensures value { result ≡ Spec.weekday_told word.now }
     ensures small { IfSome result (λ weekday. weekday < 7) }
 {
     match word {

@@ -4,18 +4,8 @@
 ghost use Rattle.std.specs.Prelude.{◌≡◌, [], ok_or};
 ghost use Rattle.std.specs.Borrow.{sem};
 ghost use Rattle.gix_date.specs.declared.error.Error.TheVariants.{OffsetTooWide};
-ghost use Rattle.gix_date.specs.Header.Text.{GivesText, text_left};
-ghost use Rattle.gix_date.specs.Devices.Lending.{LeavesText};
-ghost use Rattle.gix_date.specs.Header.TimeBuf.{text_in, HoldsText};
+ghost use Rattle.gix_date.specs as Spec;
 
-use crate::error::Error;
-pub use crate::parsing::dates::parse_no_alloc;
-use crate::parsing::headers::parse_header;
-use crate::time::{MAX_TEXT_LEN, Time, header_text};
-use arrayvec::ArrayString;
-use std::str::FromStr;
-
-mod answer;
 pub mod careful;
 pub(crate) mod dates;
 mod fast;
@@ -29,7 +19,15 @@ mod patterns;
 pub(crate) mod raw;
 mod relative;
 mod shape;
-mod space_words;
+mod usual;
+
+use crate::error::Error;
+pub use crate::parsing::dates::parse_no_alloc;
+use crate::parsing::headers::parse_header;
+use crate::parsing::relative::Relative;
+use crate::time::{MAX_TEXT_LEN, Time, header_text};
+use arrayvec::ArrayString;
+use std::str::FromStr;
 
 /// A buffer for the header text of one time, of at most 26 bytes, without an allocation.
 #[derive(Clone, Copy)]
@@ -40,7 +38,7 @@ pub struct TimeBuf {
 impl TimeBuf {
     /// The text that [`Time::to_buf`] or the last [`Time::to_str`] wrote here; empty before, and after a refusal.
     pub fn as_str(&self) -> &str
-        ensures { result.now ≡ text_in self.now }
+        ensures { result.now ≡ Spec.text_in self.now }
     {
         self.text.as_str()
     }
@@ -50,8 +48,8 @@ impl TimeBuf {
     // `Error` may.
     #[inline(always)]
     fn write_text(&mut self, time: &Time) -> Option<&str>
-        ensures text { GivesText time.now (ok_or result OffsetTooWide) }
-        ensures* after { sem 𝓛 (LeavesText self.entry (text_left (ok_or result OffsetTooWide))) }
+        ensures text { Spec.GivesText time.now (ok_or result OffsetTooWide) }
+        ensures* after { sem 𝓛 (Spec.LeavesText self.entry (Spec.text_left (ok_or result OffsetTooWide))) }
     {
         self.text.clear();
         self.text = header_text(*time)?;
@@ -60,7 +58,7 @@ impl TimeBuf {
 }
 
 impl Default for TimeBuf {
-    ghost is_default = { λ buf. text_in buf ≡ [] };
+    ghost is_default = { λ buf. Spec.text_in buf ≡ [] };
 
     /// An empty buffer.
     fn default() -> TimeBuf {
@@ -83,7 +81,7 @@ impl Time {
     /// An offset of 100 hours or more, either way, is refused by [`Error::OffsetTooWide`].
     #[inline(always)]
     pub fn to_buf(self) -> Result<TimeBuf, Error>
-        ensures { HoldsText self result }
+        ensures { Spec.HoldsText self result }
     {
         match header_text(self) {
             Some(text) => Ok(TimeBuf { text }),
@@ -96,8 +94,8 @@ impl Time {
     /// An offset of 100 hours or more is refused by [`Error::OffsetTooWide`], and the buffer is empty then.
     #[inline(always)]
     pub fn to_str<'a>(&self, buf: &'a mut TimeBuf) -> Result<&'a str, Error>
-        ensures text { GivesText self.now result }
-        ensures* after { sem 𝓛 (LeavesText buf.entry (text_left result)) }
+        ensures text { Spec.GivesText self.now result }
+        ensures* after { sem 𝓛 (Spec.LeavesText buf.entry (Spec.text_left result)) }
     {
         or_too_wide(buf.write_text(self))
     }
@@ -106,13 +104,24 @@ impl Time {
 /// Reads the time of a commit header, as [`parse_header`](crate::parse_header) does. [`Error::InvalidTime`] where that
 /// gives `None`.
 impl FromStr for Time {
-    ghost use Rattle.gix_date.specs.Header.Reading.{ReadsHeader};
-
     type Err = Error;
 
-    ghost from_str_gives = { ReadsHeader };
+    ghost from_str_gives = { Spec.ReadsHeader };
 
     fn from_str(text: &str) -> Result<Time, Error> {
         parse_header(text).ok_or(Error::InvalidTime)
     }
+}
+
+/// What a family says of a text that it holds.
+#[derive(Clone, Copy)]
+pub(crate) enum Answer<'a> {
+    /// A time, whatever the moment.
+    Absolute(Time),
+    /// No time: a formatted date whose offset is above 23:59.
+    OffsetAboveDay,
+    /// No time: a day whose midnight is no instant.
+    NoInstant,
+    /// A relative date, whose time depends on the moment.
+    Relative(Relative<'a>),
 }

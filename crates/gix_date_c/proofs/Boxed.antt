@@ -35,8 +35,8 @@ use Rattle.std_heap.proofs.Global.TheLaws as heap_laws
 use Rattle.std_alloc.specs.contracts.boxed.Box as box
 use Rattle.std_alloc.proofs.boxed.Box.TheLaws as box_laws
 use Rattle.gix_date_c.specs.Handles.{held_owns}
-use Rattle.gix_date_c.specs.contracts.zone.handle.Handle as handle
-use Rattle.gix_date_c.proofs.zone.handle.Handle.TheLaws as handle_laws
+use Rattle.gix_date_c.specs.contracts.handle.Handle as handle
+use Rattle.gix_date_c.proofs.handle.Handle.TheLaws as handle_laws
 use Rattle.gix_date_c.specs.contracts.zone.held.Held as held
 use Rattle.gix_date_c.proofs.zone.held.Held.TheLaws as held_laws
 use Rattle.gix_date_c.specs.contracts.gix_date_c++zone++held++Held+Destruct.drop as drops

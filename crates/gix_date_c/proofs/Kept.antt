@@ -3,7 +3,8 @@ use Rattle.std.proofs.Common.{◌≡◌, ◌∙◌, ℕ, ◌+◌, ◌<◌, ◌�
 use Rattle.std.proofs.lemmas.Grind.{take_at_read}
 use Rattle.std.proofs.lemmas.List.{append_assoc, append-nil, take-append-drop, length-take-le}
 use Rattle.std.proofs.lemmas.List.Elements.{filter-append}
-use Rattle.std.specs.Prelude.{Result, Ok, Err}
+use Rattle.std.proofs.lemmas.List.Sums.{length-filter}
+use Rattle.std.specs.Prelude.{Result, Ok, Err, IfErr}
 use Rattle.std.specs.Result.{result_map_both}
 use Rattle.gix_signature.specs.declared.error.IdentFault.{IdentFault}
 use Rattle.gix_date_c.specs.Idents.{ident_status}
@@ -69,11 +70,12 @@ step-fits p part at place i room inside is is_place fits =
     let more = kept-yes p part i inside is in
     omega (arith, is_place, fits, kept-within p part (i + 1), ap (λ (ys : List ℕ). length ys) more, length-append (filter p (take i part)) (get_or part i 0 ∷ []))
 
-abbrev refusal_or : Status → Result (Unit {0}) Status → Status
-refusal_or other (Ok u) = other
-refusal_or other (Err s) = s
-
 -- what is refused without the line is refused with it
-pub refused-so : (r : Result (List ℕ) IdentFault) (s : Status) → Err s ≡ result_map_both (λ line. tt {0}) ident_status r → Err s ≡ result_map_both (λ line. line) ident_status r
-refused-so (Ok line) s e = absurd cc
-refused-so (Err fault) s e = ap (λ (x : Status). Err x) (ap (refusal_or s) e)
+pub refused_so : (due : Result (List ℕ) IdentFault) (r : Result (Unit {0}) Status) → r ≡ result_map_both (λ line. tt {0}) ident_status due
+    → IfErr r (λ s. Err s ≡ result_map_both (λ line. line) ident_status due)
+refused_so (Ok line) (Ok u) e = tt
+refused_so (Ok line) (Err s) e = absurd cc
+refused_so (Err fault) (Ok u) e = tt
+refused_so (Err fault) (Err s) e = cc
+
+pub ruleset kept_lengths = (length-filter)

@@ -1,7 +1,5 @@
 mod Blocks
 mod Boxed
-mod Found
-mod Instants
 mod Kept
 mod Modes
 mod Named

@@ -3,9 +3,9 @@ use Rattle.std.proofs.Common.{◌≡◌, Bool, true, false, Some, refl}
 use Rattle.git_date.specs.declared.mode.DateKind.{DateKind}
 use Rattle.git_date.specs.declared.mode.DateKind.TheVariants.{Relative, Iso8601Strict, Iso8601, Rfc2822, Short, Default, Human, Raw, Unix}
 use Rattle.git_date.specs.declared.mode.DateMode.{DateMode}
-use Rattle.gix_date_c.specs.Git.Modes.{kind_number, kind_of, mode_for_c, mode_of, IsNumbered}
+use Rattle.gix_date_c.specs.Git.Modes.{kind_number, kind_numbered, mode_for_c, mode_of, IsNumbered}
 
-kind-back : (kind : DateKind) → kind_of (kind_number kind) ≡ Some kind
+kind-back : (kind : DateKind) → kind_numbered (kind_number kind) ≡ Some kind
 kind-back Relative = refl
 kind-back Iso8601Strict = refl
 kind-back Iso8601 = refl

@@ -1,17 +1,24 @@
 -- A zone that holds what was read of a text means what the text names.
-use Rattle.std.specs.Prelude.{◌≡◌, Bool, true, false, List, ℕ, Option, Some, None, option_map, Result, Ok, Err, ℤ, MatchResult}
-use Rattle.std.proofs.Common.{◌∙◌, sym, subst, ap, inl, inr}
-use Rattle.jiff.specs.Types.{TimeZone}
-use Rattle.jiff.specs.Words.{plain_zone}
+use Rattle.std.specs.Prelude.{◌≡◌, Bool, true, false, List, ℕ, Option, Some, None, is_some, option_map, Result, Ok, Err, ℤ, MatchResult}
+use Rattle.std.proofs.Common.{◌∙◌, sym, subst, ap, inl, inr, refl}
+use Rattle.std.specs.Result.{is_ok, result_map_both}
+use Rattle.std.specs.Borrow.{Bor}
+use Rattle.std.specs.Global.{Global}
+use Rattle.std.specs.declared.sync.Arc.{Arc}
+use Rattle.jiff_tz.specs.declared.tzif.Tzif.{Tzif}
+use Rattle.jiff.specs.Types.{Offset, TimeZone, Tzif as Table}
+use Rattle.jiff.specs.Placed.{fixed_zone}
+use Rattle.jiff.specs.Words.{plain_zone, IsOffsetSeconds}
+use Rattle.jiff.specs.declared.tz.TimeZone.{TimeZone as LentZone}
 use Rattle.git_date.specs.Exact.ZoneTexts.{zone_offset}
 use Rattle.gix_date_c.specs.Moments.{IsOffsetZone, IsTextZone}
-use Rattle.gix_date_c.specs.Zones.{IsCopy, IsCopyOf, IsHeld, IsHeldNamed, IsHeldZone, IsKept, IsNamed, IsRead, IsShown, IsTaken, IsZone, IsZoneOf, Names, Reads, Shows, is_file}
+use Rattle.gix_date_c.specs.Zones.{HasZone, IsCopy, IsCopyOf, IsHeld, IsHeldNamed, IsHeldZone, IsKept, IsNamed, IsRead, IsShown, IsTaken, IsZone, IsZoneOf, Names, Reads, Shows, is_file}
 use Rattle.gix_date_c.specs.Laws.{AreCopiesNamed, HasMomentsOf, HasPlacesOf}
 use Rattle.gix_date_c.specs.Values.Statuses.{number_of}
 use Rattle.gix_date_c.specs.declared.values.status.Status.{Status}
-use Rattle.gix_date_c.specs.declared.values.status.Status.TheVariants.{Done}
+use Rattle.gix_date_c.specs.declared.values.status.Status.TheVariants.{Done, InvalidZone}
 use Rattle.gix_date_c.specs.declared.zone.TakenZone.{TakenZone}
-use Rattle.gix_date_c.specs.declared.zone.lent.ShownZone.{ShownZone}
+use Rattle.gix_date_c.specs.declared.handle.ShownZone.{ShownZone}
 use Rattle.gix_date_c.specs.declared.zone.stored.CZone.{CZone}
 use Rattle.gix_date_c.specs.declared.zone.held.Held.{Held}
 use Rattle.gix_date_c.specs.declared.zone.held.Held.TheVariants.{Rule, Table as Rows}
@@ -39,7 +46,13 @@ named None text zone kept is k z at =
 
 pub reads : (text : List ℕ) (old new : CZone) (kept : TakenZone) (status : ℕ) → IsTaken new kept → IsKept (zone_offset text) text (Ok kept)
     → status ≡ number_of Done → Reads text old new status
+unfolding Reads
 reads text old new kept status is k done = inl (named (zone_offset text) text new kept is k, done)
+
+pub not_read : (text : List ℕ) (old new : CZone) (refusal : Status) (status : ℕ) → IsKept (zone_offset text) text (Err refusal) → new ≡ old
+    → status ≡ number_of refusal → Reads text old new status
+unfolding Reads
+not_read text old new refusal status k same is = inr (refusal, k, same, is)
 
 -- what C shows of such a zone means the same
 shown-named : (text : List ℕ) (zone : CZone) (shown : ShownZone) → Names text zone → Shows zone shown → (z : Result TimeZone Status) → IsShown shown z
@@ -67,7 +80,47 @@ copied-zone offset None (Some copy) z is at = absurd is
 copied-zone offset (Some held) None z is at = absurd is
 
 pub copies : (text : List ℕ) (zone : CZone) (shown : ShownZone) → AreCopiesNamed text zone shown
+unfolding AreCopiesNamed
 copies text zone shown old new names same (inl copied) z at =
     shown-named text zone shown names same z
     (copied-zone shown.offset shown.handle.held new.handle.held z copied.1 (subst (λ (o : ℤ). IsZoneOf o new.handle.held z) copied.0 at))
 copies text zone shown old new names same (inr refused) z at = absurd cc
+
+-- the zone of a table that is lent
+pub lent_zone : (held : Held) (read : Arc Tzif Global) (lent : Bor Tzif) → held ≡ Rows read → lent.now ≡ read.value → IsHeldZone held (Table lent)
+lent_zone held read lent is same = subst (λ (h : Held). IsHeldZone h (Table lent)) (sym is) (lent, same, refl)
+
+-- the zone of an offset, or none
+pub offset_zone : (offset : ℤ) (o : Offset) (z : TimeZone) → o.seconds ≡ offset → z ≡ fixed_zone o → IsOffsetZone offset (Ok z)
+unfolding IsOffsetZone
+offset_zone offset o z is same = (o, is, same)
+
+pub no_offset_zone : (offset : ℤ) → (IsOffsetSeconds offset → ⊥) → IsOffsetZone offset (Err InvalidZone)
+unfolding IsOffsetZone
+no_offset_zone offset h = (refl, h)
+
+-- what is held is a zone, wherever its table lies
+held-zone : (held : Held) → (z : TimeZone) × IsHeldZone held z
+held-zone (Rule zone) = (plain_zone zone, refl)
+held-zone (Rows read) = let lent : Bor Tzif = record { ref_ptr = (0, 0); now = read.value } in (Table lent, (lent, refl, refl))
+
+-- a zone that is held is there
+pub held_found : (shown : ShownZone) → is_some shown.handle.held ≡ true → HasZone shown
+unfolding HasZone
+held_found shown h = found shown.offset shown.handle.held h
+  where
+    found : (offset : ℤ) (held : Option Held) → is_some held ≡ true → (z : TimeZone) × IsZoneOf offset held (Ok z)
+    found offset None h = absurd cc
+    found offset (Some held) h = held-zone held
+
+-- where none is held, there is a zone if there is that of the offset
+pub offset_found : (shown : ShownZone) (zone : Result LentZone Status) → is_some shown.handle.held ≡ false → IsOffsetZone shown.offset (result_map_both plain_zone (λ status. status) zone)
+    → is_ok zone ≡ true → HasZone shown
+unfolding HasZone
+offset_found shown zone h is ok = found shown.offset shown.handle.held zone h is ok
+  where
+    found : (offset : ℤ) (held : Option Held) (zone : Result LentZone Status) → is_some held ≡ false → IsOffsetZone offset (result_map_both plain_zone (λ status. status) zone)
+        → is_ok zone ≡ true → (z : TimeZone) × IsZoneOf offset held (Ok z)
+    found offset None (Ok z) h is ok = (plain_zone z, is)
+    found offset None (Err status) h is ok = absurd cc
+    found offset (Some held) zone h is ok = absurd cc

@@ -1,15 +1,22 @@
 -- What is printed by a pattern, or is not, and what is printed without an owned text.
-use Rattle.std.proofs.Common.{◌≡◌, ◌∙◌, ◌≤◌, ◌<◌, ◌^◌, ℕ, List, length, Bool, true, false, Result, Ok, Err, IsUtf8, inl, refl, sym, ap, subst, arith, string_bytes}
+use Rattle.std.proofs.Common.{◌≡◌, ◌∙◌, ◌≤◌, ◌<◌, ◌^◌, ℕ, List, length, Bool, true, false, Result, Ok, Err, IsUtf8, inl, inr, refl, sym, ap, subst, arith, string_bytes, None}
 use Rattle.std.specs.Prelude.{String}
 use Rattle.std.specs.Global.{Global}
+use Rattle.std.proofs.lemmas.Str.{is_utf8-from_IsUtf8}
+use Rattle.std.specs.Str.{is_utf8}
+use Rattle.gix_date.proofs.Header.HeaderLaws.{canonical-utf8}
+use Rattle.gix_date.proofs.Text.Texts.{no_text}
+use Rattle.gix_date.specs.Header.Canonical.{is_canonical_header}
+use Rattle.gix_date.specs.Printing.NamedFormats.{format_numbered}
 use Rattle.gix_date.specs.Printing.Formats.{IsTextOf, IsPatternText, Prints}
 use Rattle.gix_date.specs.declared.error.Error.{Error}
 use Rattle.gix_date.specs.declared.time.Time.{Time}
 use Rattle.gix_date.specs.declared.time.format.Format.{Format}
 use Rattle.gix_date.specs.declared.time.format.Format.TheVariants.{Custom, Unix, Raw}
-use Rattle.gix_date_c.specs.Printing.{IsPatternPrinted, IsPrinted, PrintsPatternSo, PrintsSo}
+use Rattle.gix_date_c.specs.Printing.{IsFormatted, IsPatternPrinted, IsPrinted, PrintsPatternSo, PrintsSo}
 use Rattle.gix_date_c.specs.declared.values.status.Status.{Status}
-use Rattle.gix_date_c.specs.declared.values.status.Status.TheVariants.{NotText}
+use Rattle.gix_date_c.specs.declared.values.status.Status.TheVariants.{NoSuchOption, NotText}
+use Rattle.gix_date_c.specs.Values.Buffers.{Puts, outcome, outcome_of}
 use denote.RawPtr.{null_ptr}
 
 -- a pattern that is no text is refused as such
@@ -62,3 +69,19 @@ pub pattern-prints : (or_unix : Bool) (t : Time) (pattern text : List ℕ) (s : 
     → PrintsPatternSo or_unix t pattern (Ok s)
 pattern-prints false t pattern text s is bytes = subst (IsPatternText t pattern) (sym bytes) is
 pattern-prints true t pattern text s is bytes = inl (subst (IsPatternText t pattern) (sym bytes) is)
+
+-- a number without a format
+pub no_format : (Prints : Format → Result (String Global) Error → Type 0) (number : ℕ) (old bytes : List ℕ) (len status : ℕ) → None ≡ format_numbered number
+    → outcome bytes len status ≡ outcome_of (Err NoSuchOption) old → Puts (IsFormatted Prints number) old bytes len status
+no_format Prints number old bytes len status none is = (Err NoSuchOption, inr (sym none, refl), is)
+
+pub ruleset texts = (is_utf8-from_IsUtf8)
+
+-- bytes that are no text are no canonical header
+not_canonical : (text : List ℕ) (canonical : Bool) → is_canonical_header text ≡ canonical → is_utf8 text ≡ false → false ≡ canonical
+not_canonical text false is e = refl
+not_canonical text true is e =
+    let clash : true ≡ false = sym (is_utf8-from_IsUtf8 text (canonical-utf8 text is)) ∙ e in absurd cc
+
+pub no_header : (text : List ℕ) → (IsUtf8 text → ⊥) → false ≡ is_canonical_header text
+no_header text h = not_canonical text _ refl (no_text text h)

@@ -29,8 +29,8 @@ use Rattle.std.specs.Prelude.{Option, None, Some}
 use Rattle.gix_date_c.specs.Handles.{held_shown}
 use Rattle.gix_date_c.specs.contracts.zone.held.Held as held
 use Rattle.gix_date_c.proofs.zone.held.Held.TheLaws as held_laws
-use Rattle.gix_date_c.specs.contracts.zone.lent.Lent as lent
-use Rattle.gix_date_c.proofs.zone.lent.Lent.TheLaws as lent_laws
+use Rattle.gix_date_c.specs.contracts.handle.Lent as lent
+use Rattle.gix_date_c.proofs.handle.Lent.TheLaws as lent_laws
 
 abbrev Zone : Type 0
 Zone = held.the_row.Denot

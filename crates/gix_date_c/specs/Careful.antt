@@ -55,5 +55,6 @@ abbrev pub IsParsedByOptions : Option CarefulOptions → Option Zoned → List �
 IsParsedByOptions None now text answer = answer ≡ Err (refused statuses.NoSuchOption)
 IsParsedByOptions (Some options) now text answer = IfText (is_utf8 text) (IsTextParsedCarefully options now text) answer
 
+-- what careful parsing comes to by the options of a caller, each a number
 abbrev pub IsParsedCarefully : CCarefulOptions → Option Zoned → List ℕ → Result CTime Refusal → Type 0
 IsParsedCarefully numbers = IsParsedByOptions (options_of numbers)

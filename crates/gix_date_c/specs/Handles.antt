@@ -8,7 +8,7 @@ use denote.Memory.{hidden_shr}
 use denote.RawPtr.{Ptr, block_of, count_of, in_block}
 use Rattle.gix_date_c.specs.contracts.zone.held.Held.{the_row}
 use Rattle.gix_date_c.specs.declared.zone.held.Held.{Held}
-use Rattle.gix_date_c.specs.declared.zone.stored.TheConstants.{HOLDS}
+use Rattle.gix_date_c.specs.declared.handle.TheConstants.{HOLDS}
 
 -- the zone that is held lies at this pointer, in a block that this handle alone may free; if none is held the pointer owns nothing
 abbrev pub held_owns : Global → Ptr → Option Held → Fml

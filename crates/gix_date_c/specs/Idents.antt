@@ -1,10 +1,8 @@
 -- Identity lines, as C has them.
-use Rattle.std.specs.Prelude.{ℕ, List, [], length, filter, pos, Option, Some, None, option_map, Result, ok_or}
+use Rattle.std.specs.Prelude.{ℕ, List, [], length, pos, Option, Some, None, option_map, Result, ok_or}
 use Rattle.std.specs.Option.{option_map_or}
 use Rattle.std.specs.Result.{result_map_both}
 use Rattle.gix_date.specs.declared.time.Time.{Time}
-use Rattle.gix_signature.specs.Signature.{line_of}
-use Rattle.gix_signature.specs.Ident.Bytes.{is_kept}
 use Rattle.gix_signature.specs.Ident.Parts.{DateText, IdentText, ident_parts, ident_places}
 use Rattle.gix_signature.specs.Ident.Times.{git_time, time_of_git}
 use Rattle.gix_signature.specs.Ident.Due.{ident_due}
@@ -17,7 +15,6 @@ use Rattle.gix_signature.specs.declared.ident.IdentPlaces.{IdentPlaces}
 use Rattle.gix_signature.specs.declared.ident.time.GitTime.{GitTime}
 use Rattle.gix_date_c.specs.declared.ident.CGitTime.{CGitTime}
 use Rattle.gix_date_c.specs.declared.ident.CIdent.{CIdent}
-use Rattle.gix_date_c.specs.declared.ident.Pieces.{Pieces}
 use Rattle.gix_date_c.specs.declared.signature.CSpan.{CSpan}
 use Rattle.gix_date_c.specs.declared.values.status.Status.{Status}
 use Rattle.gix_date_c.specs.declared.values.status.Status.TheVariants as statuses
@@ -100,11 +97,3 @@ ident_time_answer t = result_map_both (λ time. time) ident_status (time_of_git 
 -- the line that Git writes of a name, a mail and a time
 abbrev pub ident_line_answer : List ℕ → List ℕ → Time → Result (List ℕ) Status
 ident_line_answer name mail t = result_map_both (λ line. line) ident_status (ident_due name mail t)
-
--- what is kept of a trimmed name or mail
-abbrev pub kept : List ℕ → List ℕ
-kept part = filter is_kept part
-
--- the line of pieces
-abbrev pub line_of_pieces : Pieces → List ℕ
-line_of_pieces p = line_of (record { name = kept p.name.now; mail = kept p.mail.now; time = p.time.now })

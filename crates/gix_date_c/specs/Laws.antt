@@ -14,7 +14,7 @@ use Rattle.gix_date_c.specs.declared.moment.CInstant.{CInstant}
 use Rattle.gix_date_c.specs.declared.values.status.Status.{Status}
 use Rattle.gix_date_c.specs.declared.values.status.Status.TheVariants.{Done}
 use Rattle.gix_date_c.specs.declared.values.time.CTime.{CTime}
-use Rattle.gix_date_c.specs.declared.zone.lent.ShownZone.{ShownZone}
+use Rattle.gix_date_c.specs.declared.handle.ShownZone.{ShownZone}
 use Rattle.gix_date_c.specs.declared.zone.stored.CZone.{CZone}
 
 -- where a zone means what a text names, a moment in it, as C shows it, is one in the zone that the text names
@@ -30,7 +30,7 @@ HasPlacesOf text zone shown =
     → IsPlaced (IsNamed (zone_offset text) text) instant place
 
 -- a copy means what the text names by which the zone was read
-abbrev pub AreCopiesNamed : List ℕ → CZone → ShownZone → Type 0
+unfoldable pub AreCopiesNamed : List ℕ → CZone → ShownZone → Type 0
 AreCopiesNamed text zone shown =
     (old new : CZone) → Names text zone → Shows zone shown → Copies shown old new (number_of Done) → Names text new
 

@@ -11,8 +11,8 @@ use Rattle.jiff.specs.declared.zoned.Zoned.{Zoned}
 use Rattle.jiff_tz.specs.declared.tzif.Tzif.{Tzif}
 use Rattle.gix_date.specs.Fields.Zoned.{first_second, is_instant}
 use Rattle.git_date.specs.Exact.Places as places
-use Rattle.git_date.specs.declared.zones.tables.TableError.{TableError}
-use Rattle.git_date.specs.declared.zones.tables.TableError.TheVariants as tables
+use Rattle.git_date.specs.declared.zones.texts.TableError.{TableError}
+use Rattle.git_date.specs.declared.zones.texts.TableError.TheVariants as tables
 use Rattle.gix_date_c.specs.declared.moment.CInstant.{CInstant}
 use Rattle.gix_date_c.specs.declared.values.status.Status.{Status}
 use Rattle.gix_date_c.specs.declared.values.status.Status.TheVariants as statuses
@@ -61,7 +61,7 @@ abbrev pub offset_at : Result Place Status → Result ℤ Status
 offset_at place = result_map_both (λ p. zone_offset_at p.1 p.0) (λ status. status) place
 
 -- the zone that always has this offset
-abbrev pub IsOffsetZone : ℤ → Result TimeZone Status → Type 0
+unfoldable pub IsOffsetZone : ℤ → Result TimeZone Status → Type 0
 IsOffsetZone offset zone =
     MatchResult zone (λ z. (o : Offset) × (o.seconds ≡ offset) × (z ≡ fixed_zone o))
     (λ status. (status ≡ statuses.InvalidZone) × (IsOffsetSeconds offset → ⊥))

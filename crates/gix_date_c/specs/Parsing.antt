@@ -43,6 +43,7 @@ abbrev pub IsParsedWithRule : Option RawOffsets → Option Zoned → List ℕ �
 IsParsedWithRule None now text answer = answer ≡ Err statuses.NoSuchOption
 IsParsedWithRule (Some rule) now text answer = IsParsedIf (is_utf8 text) rule now text answer
 
+-- what parsing comes to by the rule of this number for raw offsets
 abbrev pub IsParsed : ℕ → Option Zoned → List ℕ → Result Time Status → Type 0
 IsParsed raw_offsets = IsParsedWithRule (raw_rule raw_offsets)
 

@@ -1,14 +1,16 @@
 -- Signature lines, as they are cut for C and written.
-use Rattle.std.specs.Prelude.{◌≡◌, ℕ, ◌+◌, ◌&&◌, if◌then◌else◌, List, length, true, false, Result, Ok, Err}
+use Rattle.std.specs.Prelude.{◌≡◌, ℕ, ◌+◌, ◌&&◌, if◌then◌else◌, Bool, List, length, filter, true, false, Result, Ok, Err}
 use Rattle.std.specs.Result.{result_map_both}
 use Rattle.std.specs.Str.{is_utf8}
 use Rattle.gix_date.specs.declared.time.Time.{Time}
-use Rattle.gix_signature.specs.Signature.{Parts, IsCut, HasNoCut}
+use Rattle.gix_signature.specs.Ident.Bytes.{is_kept}
+use Rattle.gix_signature.specs.Signature.{Parts, IsCut, HasNoCut, line_of}
 use Rattle.gix_signature.specs.Writing.{line_due}
 use Rattle.gix_signature.specs.declared.error.SignatureError.{SignatureError}
 use Rattle.gix_signature.specs.declared.error.SignatureError.TheVariants as refusals
 use Rattle.gix_date_c.specs.Values.Stores.{Stores}
 use Rattle.gix_date_c.specs.declared.signature.CSignature.{CSignature}
+use Rattle.gix_date_c.specs.declared.signature.Pieces.{Pieces}
 use Rattle.gix_date_c.specs.declared.values.status.Status.{Status}
 use Rattle.gix_date_c.specs.declared.values.status.Status.TheVariants.{NotText, NoSignature, OffsetTooWide, BadPart, NoRoom}
 
@@ -43,3 +45,12 @@ abbrev pub line_answer : List ℕ → List ℕ → Time → Result (List ℕ) St
 line_answer name mail t =
     if is_utf8 name && is_utf8 mail
     then result_map_both (λ line. line) line_status (line_due name mail t) else Err NotText
+
+-- what stands of a name or a mail in a line: all of it, or the bytes that Git keeps
+abbrev pub part_put : Bool → List ℕ → List ℕ
+part_put is_whole part = if is_whole then part else filter is_kept part
+
+-- the line of pieces
+abbrev pub line_of_pieces : Pieces → List ℕ
+line_of_pieces p =
+    line_of (record { name = part_put p.is_whole p.name.now; mail = part_put p.is_whole p.mail.now; time = p.time.now })

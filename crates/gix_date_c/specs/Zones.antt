@@ -11,7 +11,7 @@ use Rattle.gix_date_c.specs.Values.Statuses.{number_of}
 use Rattle.gix_date_c.specs.declared.moment.CInstant.{CInstant}
 use Rattle.gix_date_c.specs.declared.values.status.Status.{Status}
 use Rattle.gix_date_c.specs.declared.values.status.Status.TheVariants as statuses
-use Rattle.gix_date_c.specs.declared.zone.lent.ShownZone.{ShownZone}
+use Rattle.gix_date_c.specs.declared.handle.ShownZone.{ShownZone}
 use Rattle.gix_date_c.specs.declared.zone.stored.CZone.{CZone}
 use Rattle.gix_date_c.specs.declared.zone.TakenZone.{TakenZone}
 use Rattle.gix_date_c.specs.declared.zone.held.Held.{Held}
@@ -60,6 +60,10 @@ IsZone zone = IsZoneOf zone.offset zone.handle.held
 -- the zone that C shows
 abbrev pub IsShown : ShownZone → Result TimeZone Status → Type 0
 IsShown zone = IsZoneOf zone.offset zone.handle.held
+
+-- there is such a zone
+unfoldable pub HasZone : ShownZone → Type 0
+HasZone shown = (zone : TimeZone) × IsShown shown (Ok zone)
 
 -- the offset at an instant of a zone of which this is known, or why there is none
 abbrev pub IsOffset : (Result TimeZone Status → Type 0) → CInstant → Result ℤ Status → Type 0
@@ -114,7 +118,7 @@ abbrev pub Names : List ℕ → CZone → Type 0
 Names text zone = (z : Result TimeZone Status) → IsZone zone z → IsNamed (zone_offset text) text z
 
 -- a zone means what a text names now, or what was there is as it was, and the status says why
-abbrev pub Reads : List ℕ → CZone → CZone → ℕ → Type 0
+unfoldable pub Reads : List ℕ → CZone → CZone → ℕ → Type 0
 Reads text old new status =
     (Names text new × (status ≡ number_of statuses.Done))
     ⊎ ((refusal : Status) × IsKept (zone_offset text) text (Err refusal) × (new ≡ old) × (status ≡ number_of refusal))

@@ -1,11 +1,7 @@
 //! Dates parsed without guessing.
 ghost use Rattle.std.specs.Prelude.{◌≡◌, Some, None};
 ghost use Rattle.std.specs.Result.{result_map_both};
-ghost use Rattle.gix_date_c.specs.Careful.{IsParsedCarefully, options_of, refusal_of, texts_of, without_offset_of};
-ghost use Rattle.gix_date_c.specs.Reading.{IsReadAt, IsReadIn};
-ghost use Rattle.gix_date_c.specs.Values.Stores.{StoresRead};
-ghost use Rattle.gix_date_c.specs.Zones.{IsShown};
-ghost use Rattle.gix_date_c.specs.Values.Times.{time_for_c};
+ghost use Rattle.gix_date_c.specs as Spec;
 
 use crate::moment::CInstant;
 use crate::parse::{raw_rule, refusal_status};
@@ -34,7 +30,7 @@ pub extern "C" fn gix_date_parse_carefully(
     time: &mut CTime,
     place: &mut usize,
 ) -> u32
-    ensures { StoresRead (IsParsedCarefully options.now None text.now)
+    ensures { Spec.StoresRead (Spec.IsParsedCarefully options.now None text.now)
         (time.old, place.old) (time.new, place.new) result }
 {
     store_read(parse_text(text, options, None), time, place)
@@ -50,7 +46,7 @@ pub extern "C" fn gix_date_parse_carefully_at(
     time: &mut CTime,
     place: &mut usize,
 ) -> u32
-    ensures { StoresRead (IsReadIn (λ now. IsParsedCarefully options.now (Some now)) (IsShown zone.now) now.now text.now)
+    ensures { Spec.StoresRead (Spec.IsReadIn (λ now. Spec.IsParsedCarefully options.now (Some now)) (Spec.IsShown zone.now) now.now text.now)
         (time.old, place.old) (time.new, place.new) result }
 {
     let answer = parse_at(text, options, zone.moment(now));
@@ -64,13 +60,11 @@ pub(crate) fn parse_text(
     numbers: &CCarefulOptions,
     now: Option<Zoned<'_>>,
 ) -> Result<CTime, Refusal>
-    ensures { IsParsedCarefully numbers.now now.entry text.now result }
+    ensures { Spec.IsParsedCarefully numbers.now now.entry text.now result }
 {
     let options = options_of(numbers).ok_or(Refusal::of(Status::NoSuchOption))?;
-    match utf8_text(text) {
-        Ok(text) => for_c(parse_carefully(text, now, options)),
-        Err(status) => Err(Refusal::of(status)),
-    }
+    let text = utf8_text(text).map_err(Refusal::of)?;
+    for_c(parse_carefully(text, now, options))
 }
 
 /// What a text says at a moment, where there is one.
@@ -80,18 +74,15 @@ pub(crate) fn parse_at(
     numbers: &CCarefulOptions,
     now: Result<Zoned<'_>, Status>,
 ) -> Result<CTime, Refusal>
-    ensures { IsReadAt (λ now. IsParsedCarefully numbers.now (Some now)) now.entry text.now result }
+    ensures { Spec.IsReadAt (λ now. Spec.IsParsedCarefully numbers.now (Some now)) now.entry text.now result }
 {
-    match now {
-        Ok(now) => parse_text(text, numbers, Some(now)),
-        Err(status) => Err(Refusal::of(status)),
-    }
+    parse_text(text, numbers, Some(now.map_err(Refusal::of)?))
 }
 
 /// The library's answer, as C is told it.
 #[inline(always)]
 fn for_c(answer: Result<Time, CarefulError>) -> Result<CTime, Refusal>
-    ensures { result ≡ result_map_both time_for_c refusal_of answer }
+    ensures { result ≡ result_map_both Spec.time_for_c Spec.refusal_of answer }
 {
     match answer {
         Ok(time) => Ok(time_for_c(time)),
@@ -102,7 +93,7 @@ fn for_c(answer: Result<Time, CarefulError>) -> Result<CTime, Refusal>
 }
 
 fn options_of(numbers: &CCarefulOptions) -> Option<CarefulOptions>
-    ensures { result ≡ options_of numbers.now }
+    ensures { result ≡ Spec.options_of numbers.now }
 {
     Some(CarefulOptions {
         raw: raw_rule(numbers.raw_offsets)?,
@@ -112,7 +103,7 @@ fn options_of(numbers: &CCarefulOptions) -> Option<CarefulOptions>
 }
 
 fn without_offset_of(number: u32) -> Option<WithoutOffset>
-    ensures { result ≡ without_offset_of number }
+    ensures { result ≡ Spec.without_offset_of number }
 {
     match number {
         0 => Some(WithoutOffset::Utc),
@@ -122,7 +113,7 @@ fn without_offset_of(number: u32) -> Option<WithoutOffset>
 }
 
 fn texts_of(number: u32) -> Option<Texts>
-    ensures { result ≡ texts_of number }
+    ensures { result ≡ Spec.texts_of number }
 {
     match number {
         0 => Some(Texts::Careful),

@@ -1,6 +1,6 @@
 //! Dates as Git reads and shows them, as `include/git_date.h` declares them.
 ghost use Rattle.std.specs.Prelude.{◌≡◌};
-ghost use Rattle.gix_date_c.specs.Git.Dates.{date_refusal, ignored_place};
+ghost use Rattle.gix_date_c.specs as Spec;
 
 mod ages;
 pub(crate) mod dates;
@@ -16,7 +16,7 @@ use git_date::DateError;
 
 /// The refusal that C is told for one of Git's dates.
 fn date_refusal(error: DateError) -> Refusal
-    ensures { result ≡ date_refusal error }
+    ensures { result ≡ Spec.date_refusal error }
 {
     match error {
         DateError::Unreadable => Refusal::of(Status::Unreadable),
@@ -29,7 +29,7 @@ fn date_refusal(error: DateError) -> Refusal
 
 /// The place of what was ignored, or the greatest number if nothing was.
 fn ignored_place(ignored: Option<usize>) -> usize
-    ensures { result ≡ ignored_place ignored }
+    ensures { result ≡ Spec.ignored_place ignored }
 {
     match ignored {
         Some(place) => place,

@@ -1,8 +1,7 @@
 //! Times of commit headers.
 ghost use Rattle.std.specs.Prelude.{◌≡◌};
-ghost use Rattle.gix_date.specs.Header.Canonical.{is_canonical_header};
-ghost use Rattle.gix_date_c.specs.Values.Buffers.{Outcome, outcome_of, header_text_answer};
-ghost use Rattle.gix_date_c.specs.Values.Times.{StoresTime, header_answer, load_time};
+ghost use Rattle.gix_date_c.specs as Spec;
+ghost use Rattle.gix_date.specs as GixDate;
 
 use crate::values::buffer::store_text;
 use crate::values::status::Status;
@@ -14,13 +13,13 @@ use gix_date::{Time, is_canonical_header, parse_header};
 /// The time of a commit header, read leniently.
 #[unsafe(no_mangle)]
 pub extern "C" fn gix_date_parse_header(text: &[u8], time: &mut CTime) -> u32
-    ensures { StoresTime (header_answer text.now) time.old time.new result }
+    ensures { Spec.StoresTime (Spec.header_answer text.now) time.old time.new result }
 {
     store_time(header_time(text), time)
 }
 
 pub(crate) fn header_time(text: &[u8]) -> Result<Time, Status>
-    ensures { result ≡ header_answer text.now }
+    ensures { result ≡ Spec.header_answer text.now }
 {
     parse_header(utf8_text(text)?).ok_or(Status::InvalidTime)
 }
@@ -28,8 +27,7 @@ pub(crate) fn header_time(text: &[u8]) -> Result<Time, Status>
 /// The text of a time in a commit header.
 #[unsafe(no_mangle)]
 pub extern "C" fn gix_date_write_header(time: &CTime, out: &mut [u8], len: &mut usize) -> u32
-    ensures { record { bytes = out.new; len = len.new; status = result }
-        ≡ outcome_of (header_text_answer (load_time time.now)) out.old }
+    ensures { Spec.outcome out.new len.new result ≡ Spec.outcome_of (Spec.header_text_answer (Spec.load_time time.now)) out.old }
 {
     let Ok(buf) = load_time(time).to_buf() else {
         return store_text(Err(Status::OffsetTooWide), out, len);
@@ -40,14 +38,15 @@ pub extern "C" fn gix_date_write_header(time: &CTime, out: &mut [u8], len: &mut 
 /// Whether a text comes back when it is read as a header and written.
 #[unsafe(no_mangle)]
 pub extern "C" fn gix_date_is_canonical_header(text: &[u8]) -> bool
-    ensures { result ≡ is_canonical_header text.now }
+    ensures { result ≡ GixDate.is_canonical_header text.now }
 {
     is_canonical(text)
 }
 
 /// Whether bytes come back when they are read as a header and written.
+#[tactic(auto, using(crate::proofs::Printed::no_header))]
 pub(crate) fn is_canonical(text: &[u8]) -> bool
-    ensures { result ≡ is_canonical_header text.now }
+    ensures { result ≡ GixDate.is_canonical_header text.now }
 {
     match text_of(text) {
         Some(text) => is_canonical_header(text),

@@ -8,6 +8,7 @@
 
 mod careful;
 mod git;
+mod handle;
 mod header;
 mod ident;
 mod laws;

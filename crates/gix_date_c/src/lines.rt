@@ -1,13 +1,9 @@
 //! Blocks of many lines, read and checked in one call.
 ghost use Rattle.std.specs.Prelude.{◌≡◌, ◌⊎◌, ◌≤◌, ◌<◌, length, [], MatchOption, Result, Some, None};
 ghost use Rattle.jiff.specs.declared.zoned.Zoned.{Zoned};
-ghost use Rattle.gix_date_lines.specs.Lines.{IsCutAfter};
-ghost use Rattle.gix_date_c.specs.Lines.Blocks.{ChecksLines, DoesLines};
-ghost use Rattle.gix_date_c.specs.Lines.Columns.{Columns};
-ghost use Rattle.gix_date_c.specs.Lines.Readers.{IsLineRead, line_reader};
-ghost use Rattle.gix_date_c.specs.Moments.{IsNow};
-ghost use Rattle.gix_date_c.specs.Zones.{IsShown};
 ghost use Rattle.gix_date_c.specs.declared.values.status.Status.{Status};
+ghost use Rattle.gix_date_c.specs as Spec;
+ghost use Rattle.streams.specs as Streams;
 
 mod columns;
 pub(crate) mod reader;
@@ -18,7 +14,7 @@ use crate::lines::columns::{room, store_answer};
 use crate::lines::reader::{LineReader, line_reader};
 use crate::moment::CInstant;
 use crate::zone::ShownZone;
-use gix_date_lines::first_line;
+use streams::first_line;
 
 /// Reads each line of a block by the reader of a number. What is relative to a moment is refused.
 #[unsafe(no_mangle)]
@@ -31,7 +27,7 @@ pub extern "C" fn gix_date_parse_lines(
     statuses: &mut [u32],
     bytes: &mut usize,
 ) -> usize
-    ensures { DoesLines (IsLineRead (line_reader reader options.now None)) block.now
+    ensures { Spec.DoesLines (Spec.IsLineRead (Spec.line_reader reader options.now None)) block.now
         (record { seconds = seconds.old; offsets = offsets.old; statuses = statuses.old })
         (record { seconds = seconds.new; offsets = offsets.new; statuses = statuses.new }) (result, bytes.new) }
 {
@@ -52,8 +48,8 @@ pub extern "C" fn gix_date_parse_lines_at(
     statuses: &mut [u32],
     bytes: &mut usize,
 ) -> usize
-    ensures { (moment : Result Zoned Status) × IsNow (IsShown zone.now) now.now moment
-        × DoesLines (IsLineRead (line_reader reader options.now (Some moment))) block.now
+    ensures { (moment : Result Zoned Status) × Spec.IsNow (Spec.IsShown zone.now) now.now moment
+        × Spec.DoesLines (Spec.IsLineRead (Spec.line_reader reader options.now (Some moment))) block.now
         (record { seconds = seconds.old; offsets = offsets.old; statuses = statuses.old })
         (record { seconds = seconds.new; offsets = offsets.new; statuses = statuses.new }) (result, bytes.new) }
 {
@@ -68,7 +64,7 @@ pub extern "C" fn gix_date_check_lines(
     canonical: &mut [u8],
     bytes: &mut usize,
 ) -> usize
-    ensures { ChecksLines block.now canonical.old canonical.new (result, bytes.new) }
+    ensures { Spec.ChecksLines block.now canonical.old canonical.new (result, bytes.new) }
 {
     let room = canonical.len();
     let mut left = block;
@@ -91,7 +87,7 @@ pub(crate) fn read_lines(
     statuses: &mut [u32],
     bytes: &mut usize,
 ) -> usize
-    ensures { DoesLines (IsLineRead reader.now) block.now
+    ensures { Spec.DoesLines (Spec.IsLineRead reader.now) block.now
         (record { seconds = seconds.old; offsets = offsets.old; statuses = statuses.old })
         (record { seconds = seconds.new; offsets = offsets.new; statuses = statuses.new }) (result, bytes.new) }
 {
@@ -112,7 +108,7 @@ pub(crate) fn read_lines(
 fn next_line(left: &[u8], done: usize, room: usize) -> Option<(&[u8], &[u8])>
     requires { done ≤ room }
     ensures { MatchOption result ((left.now ≡ []) ⊎ (done ≡ room))
-        (λ cut. (done < room) × IsCutAfter left.now (cut.0.now, cut.1.now)) }
+        (λ cut. (done < room) × Streams.IsCutAfter left.now (cut.0.now, cut.1.now)) }
 {
     if done == room {
         return None;

@@ -2,7 +2,7 @@
 ghost use Rattle.std.specs.Prelude.{◌≡◌, Ok};
 ghost use Rattle.std.specs.Result.{result_map_both};
 ghost use Rattle.jiff.specs.Words.{plain_zone};
-ghost use Rattle.gix_date_c.specs.Moments.{IsOffsetZone, IsTable, IsTextZone, nanos_of, place_of, placed, table_status};
+ghost use Rattle.gix_date_c.specs as Spec;
 
 use crate::values::status::Status;
 use crate::values::text::utf8_text;
@@ -26,21 +26,16 @@ pub(crate) fn moment_in<'z>(
     instant: &CInstant,
     zone: Result<TimeZone<'z>, Status>,
 ) -> Result<Zoned<'z>, Status>
-    ensures { place_of result ≡ placed (nanos_of instant.now) (result_map_both plain_zone (λ status. status) zone.entry) }
+    ensures { Spec.place_of result ≡ Spec.placed (Spec.nanos_of instant.now) (result_map_both plain_zone (λ status. status) zone.entry) }
 {
-    moment(instant, zone?)
-}
-
-fn moment<'z>(instant: &CInstant, zone: TimeZone<'z>) -> Result<Zoned<'z>, Status>
-    ensures { place_of result ≡ placed (nanos_of instant.now) (Ok (plain_zone zone.entry)) }
-{
+    let zone = zone?;
     Ok(timestamp_of(instant)?.to_zoned(zone))
 }
 
 /// An instant, where `jiff` has it.
 #[inline(always)]
 pub(crate) fn timestamp_of(instant: &CInstant) -> Result<Timestamp, Status>
-    ensures { result_map_both (λ now. now.nanosecond) (λ status. status) result ≡ nanos_of instant.now }
+    ensures { result_map_both (λ now. now.nanosecond) (λ status. status) result ≡ Spec.nanos_of instant.now }
 {
     match Timestamp::new(instant.seconds, instant.nanoseconds) {
         Ok(now) => Ok(now),
@@ -49,9 +44,10 @@ pub(crate) fn timestamp_of(instant: &CInstant) -> Result<Timestamp, Status>
 }
 
 /// The zone that always has an offset.
+#[tactic(auto, using(gix_date::proofs::Text::Ints::held, crate::proofs::Named::offset_zone, crate::proofs::Named::no_offset_zone))]
 #[inline(always)]
 pub(crate) fn offset_zone(offset: i32) -> Result<TimeZone<'static>, Status>
-    ensures { IsOffsetZone offset (result_map_both plain_zone (λ status. status) result) }
+    ensures { Spec.IsOffsetZone offset (result_map_both plain_zone (λ status. status) result) }
 {
     match Offset::from_seconds(offset) {
         Ok(offset) => Ok(offset.to_time_zone()),
@@ -61,25 +57,22 @@ pub(crate) fn offset_zone(offset: i32) -> Result<TimeZone<'static>, Status>
 
 /// The zone that a text means by itself: that of a POSIX rule, or UTC by its name.
 pub(crate) fn text_zone(text: &[u8]) -> Result<TimeZone<'static>, Status>
-    ensures { IsTextZone text.now (result_map_both plain_zone (λ status. status) result) }
+    ensures { Spec.IsTextZone text.now (result_map_both plain_zone (λ status. status) result) }
 {
-    match zone_of_text(utf8_text(text)?) {
-        Some(zone) => Ok(zone),
-        None => Err(Status::InvalidZone),
-    }
+    zone_of_text(utf8_text(text)?).ok_or(Status::InvalidZone)
 }
 
 /// The table of a TZif file. It needs much stack, which a rule is not to pay for.
 #[inline(never)]
 pub(crate) fn table_of(alloc: Global, file: &[u8]) -> Result<Tzif, Status>
-    ensures { IsTable file.now result }
+    ensures { Spec.IsTable file.now result }
 {
     zone_table(alloc, file).map_err(table_status)
 }
 
 /// The status of a file that says no zone.
 fn table_status(error: TableError) -> Status
-    ensures { result ≡ table_status error }
+    ensures { result ≡ Spec.table_status error }
 {
     match error {
         TableError::OutOfMemory => Status::Memory,

@@ -1,8 +1,6 @@
 //! Dates parsed.
 ghost use Rattle.std.specs.Prelude.{◌≡◌, Result, Ok, None};
-ghost use Rattle.gix_date_c.specs.Parsing.{IsParsed, IsParsedAt, IsParsedIn, raw_rule, refusal_status};
-ghost use Rattle.gix_date_c.specs.Values.Times.{StoresTime};
-ghost use Rattle.gix_date_c.specs.Zones.{IsShown};
+ghost use Rattle.gix_date_c.specs as Spec;
 
 use crate::moment::CInstant;
 use crate::values::status::Status;
@@ -14,8 +12,8 @@ use gix_date::{ParseError, RawOffsets, Time, Zoned, parse_no_alloc};
 /// Parses a date that is relative to no moment.
 #[unsafe(no_mangle)]
 pub extern "C" fn gix_date_parse(text: &[u8], raw_offsets: u32, time: &mut CTime) -> u32
-    ensures { (answer : Result Time Status) × IsParsed raw_offsets None text.now answer
-        × StoresTime answer time.old time.new result }
+    ensures { (answer : Result Time Status) × Spec.IsParsed raw_offsets None text.now answer
+        × Spec.StoresTime answer time.old time.new result }
 {
     store_time(parse_text(text, raw_offsets, None), time)
 }
@@ -29,8 +27,8 @@ pub extern "C" fn gix_date_parse_at(
     zone: &ShownZone,
     time: &mut CTime,
 ) -> u32
-    ensures { (answer : Result Time Status) × IsParsedIn raw_offsets (IsShown zone.now) now.now text.now answer
-        × StoresTime answer time.old time.new result }
+    ensures { (answer : Result Time Status) × Spec.IsParsedIn raw_offsets (Spec.IsShown zone.now) now.now text.now answer
+        × Spec.StoresTime answer time.old time.new result }
 {
     let answer = parse_at(text, raw_offsets, zone.moment(now));
     store_time(answer, time)
@@ -43,7 +41,7 @@ pub(crate) fn parse_text(
     raw_offsets: u32,
     now: Option<Zoned<'_>>,
 ) -> Result<Time, Status>
-    ensures { IsParsed raw_offsets now.entry text.now result }
+    ensures { Spec.IsParsed raw_offsets now.entry text.now result }
 {
     let rule = raw_rule(raw_offsets).ok_or(Status::NoSuchOption)?;
     parse_no_alloc(utf8_text(text)?, now, rule).map_err(refusal_status)
@@ -51,7 +49,7 @@ pub(crate) fn parse_text(
 
 /// The status of a refusal of the library.
 pub(crate) fn refusal_status(error: ParseError) -> Status
-    ensures { result ≡ refusal_status error }
+    ensures { result ≡ Spec.refusal_status error }
 {
     match error {
         ParseError::UnknownFormat => Status::UnknownFormat,
@@ -68,13 +66,13 @@ pub(crate) fn parse_at(
     raw_offsets: u32,
     now: Result<Zoned<'_>, Status>,
 ) -> Result<Time, Status>
-    ensures { IsParsedAt raw_offsets now.entry text.now result }
+    ensures { Spec.IsParsedAt raw_offsets now.entry text.now result }
 {
     parse_text(text, raw_offsets, Some(now?))
 }
 
 pub(crate) fn raw_rule(number: u32) -> Option<RawOffsets>
-    ensures { result ≡ raw_rule number }
+    ensures { result ≡ Spec.raw_rule number }
 {
     match number {
         0 => Some(RawOffsets::Quarter),

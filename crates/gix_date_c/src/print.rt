@@ -1,10 +1,8 @@
 //! Times printed.
 ghost use Rattle.std.specs.Prelude.{◌≡◌, Result};
 ghost use Rattle.std.specs.Str.{is_utf8};
-ghost use Rattle.gix_date.specs.Printing.Formats.{Prints, PrintsPattern, PrintsPatternOrSeconds, PrintsOrSeconds};
-ghost use Rattle.gix_date_c.specs.Values.Buffers.{Outcome, Puts, outcome_of};
-ghost use Rattle.gix_date_c.specs.Printing.{IsFormatted, IsPatternPrinted, IsPrinted, PrintsPatternSo, PrintsSo, print_status, printed_text};
-ghost use Rattle.gix_date_c.specs.Values.Times.{load_time};
+ghost use Rattle.gix_date_c.specs as Spec;
+ghost use Rattle.gix_date.specs as GixDate;
 
 use crate::values::buffer::store_text;
 use crate::values::status::Status;
@@ -23,8 +21,7 @@ pub extern "C" fn gix_date_format(
     out: &mut [u8],
     len: &mut usize,
 ) -> u32
-    ensures { Puts (IsFormatted (Prints (load_time time.now)) format)
-        out.old (record { bytes = out.new; len = len.new; status = result }) }
+    ensures { Spec.Puts (Spec.IsFormatted (GixDate.Prints (Spec.load_time time.now)) format) out.old out.new len.new result }
 {
     put_formatted(alloc, time, format, false, out, len)
 }
@@ -38,8 +35,7 @@ pub extern "C" fn gix_date_format_or_unix(
     out: &mut [u8],
     len: &mut usize,
 ) -> u32
-    ensures { Puts (IsFormatted (PrintsOrSeconds (load_time time.now)) format)
-        out.old (record { bytes = out.new; len = len.new; status = result }) }
+    ensures { Spec.Puts (Spec.IsFormatted (GixDate.PrintsOrSeconds (Spec.load_time time.now)) format) out.old out.new len.new result }
 {
     put_formatted(alloc, time, format, true, out, len)
 }
@@ -53,8 +49,8 @@ pub extern "C" fn gix_date_format_by_pattern(
     out: &mut [u8],
     len: &mut usize,
 ) -> u32
-    ensures { Puts (IsPatternPrinted (PrintsPattern (load_time time.now) pattern.now) (is_utf8 pattern.now))
-        out.old (record { bytes = out.new; len = len.new; status = result }) }
+    ensures { Spec.Puts (Spec.IsPatternPrinted (GixDate.PrintsPattern (Spec.load_time time.now) pattern.now) (is_utf8 pattern.now))
+        out.old out.new len.new result }
 {
     put_by_pattern(alloc, time, pattern, false, out, len)
 }
@@ -68,13 +64,14 @@ pub extern "C" fn gix_date_format_by_pattern_or_unix(
     out: &mut [u8],
     len: &mut usize,
 ) -> u32
-    ensures { Puts (IsPatternPrinted (PrintsPatternOrSeconds (load_time time.now) pattern.now) (is_utf8 pattern.now))
-        out.old (record { bytes = out.new; len = len.new; status = result }) }
+    ensures { Spec.Puts (Spec.IsPatternPrinted (GixDate.PrintsPatternOrSeconds (Spec.load_time time.now) pattern.now) (is_utf8 pattern.now))
+        out.old out.new len.new result }
 {
     put_by_pattern(alloc, time, pattern, true, out, len)
 }
 
 /// Puts a time in the format of a number into a buffer, or the seconds of one that has no such text, if they are wanted.
+#[tactic(auto, using(crate::proofs::Printed::no_format))]
 #[inline(always)]
 fn put_formatted(
     alloc: Global,
@@ -84,8 +81,7 @@ fn put_formatted(
     out: &mut [u8],
     len: &mut usize,
 ) -> u32
-    ensures { Puts (IsFormatted (PrintsSo or_unix (load_time time.now)) format)
-        out.old (record { bytes = out.new; len = len.new; status = result }) }
+    ensures { Spec.Puts (Spec.IsFormatted (Spec.PrintsSo or_unix (Spec.load_time time.now)) format) out.old out.new len.new result }
 {
     // An arm for each kind of format: where they meet, the text is copied twice more.
     match format_numbered(format as usize) {
@@ -107,8 +103,7 @@ fn put_in_format(
     out: &mut [u8],
     len: &mut usize,
 ) -> u32
-    ensures { Puts (IsPrinted (PrintsSo or_unix (load_time time.now) format))
-        out.old (record { bytes = out.new; len = len.new; status = result }) }
+    ensures { Spec.Puts (Spec.IsPrinted (Spec.PrintsSo or_unix (Spec.load_time time.now) format)) out.old out.new len.new result }
 {
     let printed = load_time(time).format_to_buf(format);
     match &printed {
@@ -127,8 +122,7 @@ fn put_printed(
     out: &mut [u8],
     len: &mut usize,
 ) -> u32
-    ensures { Puts (IsPrinted (PrintsSo or_unix (load_time time.now) format))
-        out.old (record { bytes = out.new; len = len.new; status = result }) }
+    ensures { Spec.Puts (Spec.IsPrinted (Spec.PrintsSo or_unix (Spec.load_time time.now) format)) out.old out.new len.new result }
 {
     let time = load_time(time);
     if or_unix {
@@ -147,8 +141,8 @@ fn put_by_pattern(
     out: &mut [u8],
     len: &mut usize,
 ) -> u32
-    ensures { Puts (IsPatternPrinted (PrintsPatternSo or_unix (load_time time.now) pattern.now) (is_utf8 pattern.now))
-        out.old (record { bytes = out.new; len = len.new; status = result }) }
+    ensures { Spec.Puts (Spec.IsPatternPrinted (Spec.PrintsPatternSo or_unix (Spec.load_time time.now) pattern.now) (is_utf8 pattern.now))
+        out.old out.new len.new result }
 {
     let pattern = match utf8_text(pattern) {
         Ok(pattern) => pattern,
@@ -165,7 +159,7 @@ fn put_by_pattern(
 
 /// Stores what was printed.
 fn store_printed(printed: Result<String, Error>, out: &mut [u8], len: &mut usize) -> u32
-    ensures { record { bytes = out.new; len = len.new; status = result } ≡ outcome_of (printed_text printed) out.old }
+    ensures { Spec.outcome out.new len.new result ≡ Spec.outcome_of (Spec.printed_text printed) out.old }
 {
     match printed {
         Ok(text) => store_text(Ok(text.as_str()), out, len),
@@ -175,7 +169,7 @@ fn store_printed(printed: Result<String, Error>, out: &mut [u8], len: &mut usize
 
 /// The status of a refusal to print.
 fn print_status(error: Error) -> Status
-    ensures { result ≡ print_status error }
+    ensures { result ≡ Spec.print_status error }
 {
     match error {
         Error::Conversion => Status::Conversion,

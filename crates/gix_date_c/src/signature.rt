@@ -1,15 +1,10 @@
 //! Signature lines.
 ghost use Rattle.std.specs.Prelude.{◌≡◌, ◌+◌, ◌<◌, ◌≤◌, ◌^◌, length, drop, take, ◌++◌, Result, Ok, None};
 ghost use Rattle.std.specs.Result.{result_map_both};
-ghost use Rattle.gix_date.specs.Header.Text.{header_text};
-ghost use Rattle.gix_date_c.specs.Values.Buffers.{Outcome, as_usize, outcome_of, text_outcome, with_text};
-ghost use Rattle.gix_date_c.specs.Signatures.{IsCutAnswer, StoresParts, line_answer, line_status, spans_of};
-ghost use Rattle.gix_date_c.specs.Values.Statuses.{number_of};
-ghost use Rattle.gix_date_c.specs.Values.Times.{load_time};
-ghost use Rattle.gix_signature.specs.Signature.{Parts, line_of, parts_of};
-ghost use Rattle.gix_signature.specs.Writing.{line_due, parts_due};
+ghost use Rattle.gix_date_c.specs as Spec;
+ghost use Rattle.gix_signature.specs as GixSignature;
 
-use crate::values::buffer::{put_at, store_text};
+use crate::values::buffer::{put_at, put_bytes_at, store_text};
 use crate::values::status::Status;
 use crate::values::store::store;
 use crate::values::text::utf8_text;
@@ -17,7 +12,7 @@ use crate::values::time::{CTime, load_time};
 use gix_date::Time;
 use gix_date::device::Sink;
 use gix_date::parsing::TimeBuf;
-use gix_signature::{SignatureError, SignatureRef, write_line};
+use gix_signature::{SignatureError, SignatureRef, is_kept, write_line};
 use std::io;
 
 /// A part of a text: where it starts, and how many bytes it has.
@@ -40,8 +35,8 @@ pub struct CSignature {
 /// Where the parts of a signature line stand.
 #[unsafe(no_mangle)]
 pub extern "C" fn gix_date_cut_signature(line: &[u8], parts: &mut CSignature) -> u32
-    ensures { (answer : Result Parts Status) × IsCutAnswer line.now answer
-        × StoresParts answer parts.old parts.new result }
+    ensures { (answer : Result GixSignature.Parts Status) × Spec.IsCutAnswer line.now answer
+        × Spec.StoresParts answer parts.old parts.new result }
 {
     let answer = match signature_of(line) {
         Ok(signature) => Ok(spans_of(signature)),
@@ -52,15 +47,15 @@ pub extern "C" fn gix_date_cut_signature(line: &[u8], parts: &mut CSignature) ->
 
 /// The parts of a line.
 pub(crate) fn signature_of(line: &[u8]) -> Result<SignatureRef<'_>, Status>
-    ensures { IsCutAnswer line.now (result_map_both parts_of (λ status. status) result) }
+    ensures { Spec.IsCutAnswer line.now (result_map_both GixSignature.parts_of (λ status. status) result) }
 {
     SignatureRef::from_line(utf8_text(line)?).ok_or(Status::NoSignature)
 }
 
 /// Where the parts of a line stand in it.
 fn spans_of(signature: SignatureRef<'_>) -> CSignature
-    requires { length (line_of (parts_of signature)) < 2 ^ 64 }
-    ensures { result ≡ spans_of (parts_of signature.entry) }
+    requires { length (GixSignature.line_of (GixSignature.parts_of signature)) < 2 ^ 64 }
+    ensures { result ≡ Spec.spans_of (GixSignature.parts_of signature.entry) }
 {
     let mail = signature.name.len() + " <".len();
     let time = mail + signature.mail.len() + "> ".len();
@@ -89,19 +84,10 @@ pub extern "C" fn gix_date_write_signature(
     out: &mut [u8],
     len: &mut usize,
 ) -> u32
-    ensures { record { bytes = out.new; len = len.new; status = result }
-        ≡ outcome_of (line_answer name.now mail.now (load_time time.now)) out.old }
+    ensures { Spec.outcome out.new len.new result ≡ Spec.outcome_of (Spec.line_answer name.now mail.now (Spec.load_time time.now)) out.old }
 {
-    match line_of(name, mail, load_time(time), &mut TimeBuf::default()) {
-        Ok(line) => {
-            *len = line_len(line);
-            store_line(line, out).number()
-        }
-        Err(status) => {
-            *len = 0;
-            status.number()
-        }
-    }
+    let mut buf = TimeBuf::default();
+    store_line(pieces_of(name, mail, load_time(time), &mut buf), out, len)
 }
 
 /// A sink that takes all and keeps nothing.
@@ -116,28 +102,29 @@ impl Sink for Nowhere {
     }
 }
 
-/// The line of a name, an email and a time, by its parts.
-fn line_of<'a>(
+/// The pieces of the line of a name, an email and a time.
+fn pieces_of<'a>(
     name: &'a [u8],
     mail: &'a [u8],
     time: Time,
     buf: &'a mut TimeBuf,
-) -> Result<SignatureRef<'a>, Status>
-    ensures { result_map_both (λ s. line_of (parts_of s)) (λ status. status) result
-        ≡ line_answer name.now mail.now time }
+) -> Result<Pieces<'a>, Status>
+    ensures { result_map_both Spec.line_of_pieces (λ status. status) result ≡ Spec.line_answer name.now mail.now time }
 {
-    let name = utf8_text(name)?;
-    let mail = utf8_text(mail)?;
-    may_write(name, mail, time)?;
+    may_write(utf8_text(name)?, utf8_text(mail)?, time)?;
     let text = time.to_buf().ok().ok_or(Status::OffsetTooWide)?;
     *buf = text;
-    let time = buf.as_str();
-    Ok(SignatureRef { name, mail, time })
+    Ok(Pieces {
+        name,
+        mail,
+        time: buf.as_str(),
+        is_whole: true,
+    })
 }
 
 /// Whether these have a line, which [`write_line`] tells.
 fn may_write(name: &str, mail: &str, time: Time) -> Result<(), Status>
-    ensures { result ≡ result_map_both (λ line. tt) line_status (line_due name.now mail.now time) }
+    ensures { result ≡ result_map_both (λ line. tt) Spec.line_status (GixSignature.line_due name.now mail.now time) }
 {
     match write_line(name, mail, time, &mut Nowhere) {
         Ok(()) => Ok(()),
@@ -147,41 +134,87 @@ fn may_write(name: &str, mail: &str, time: Time) -> Result<(), Status>
     }
 }
 
-/// How many bytes a line has. No memory holds a line for which the sum is not exact.
-fn line_len(line: SignatureRef<'_>) -> usize
-    ensures { result ≡ as_usize (length (line_of (parts_of line.entry))) }
+/// The pieces of a line: a name, a mail and the text of a time. The name and the mail stand in the line as they are, or
+/// without the bytes that [`is_kept`] refuses.
+#[derive(Clone, Copy)]
+pub(crate) struct Pieces<'a> {
+    pub(crate) name: &'a [u8],
+    pub(crate) mail: &'a [u8],
+    pub(crate) time: &'a str,
+    pub(crate) is_whole: bool,
+}
+
+/// Puts the line of these pieces at the front of a buffer, as [`store_text`] puts a text.
+pub(crate) fn store_line(line: Result<Pieces<'_>, Status>, out: &mut [u8], len: &mut usize) -> u32
+    ensures { Spec.outcome out.new len.new result
+        ≡ Spec.outcome_of (result_map_both Spec.line_of_pieces (λ status. status) line.entry) out.old }
 {
-    line.name
-        .len()
-        .saturating_add(" <".len())
-        .saturating_add(line.mail.len())
-        .saturating_add("> ".len())
-        .saturating_add(line.time.len())
+    match line {
+        Ok(line) => {
+            *len = line_len(line);
+            put_line(line, out).number()
+        }
+        Err(status) => store_text(Err(status), out, len),
+    }
 }
 
 /// Puts a line at the front of a buffer that has room for it.
-fn store_line(line: SignatureRef<'_>, out: &mut [u8]) -> Status
+#[tactic(auto, using(crate::proofs::Pieces::line_put))]
+fn put_line(line: Pieces<'_>, out: &mut [u8]) -> Status
     ensures { record {
       bytes = out.new;
-      len = as_usize (length (line_of (parts_of line.entry)));
-      status = number_of result;
+      len = Spec.as_usize (length (Spec.line_of_pieces line.entry));
+      status = Spec.number_of result;
     }
-        ≡ text_outcome (line_of (parts_of line.entry)) out.old }
+        ≡ Spec.text_outcome (Spec.line_of_pieces line.entry) out.old }
 {
     if line_len(line) > out.len() {
         return Status::NoRoom;
     }
-    put_line(line, out);
+    let after_name = put_part(out, 0, line.name, line.is_whole);
+    let mail = put_at(out, after_name, " <");
+    let after_mail = put_part(out, mail, line.mail, line.is_whole);
+    let time = put_at(out, after_mail, "> ");
+    put_at(out, time, line.time);
     Status::Done
 }
 
-fn put_line(line: SignatureRef<'_>, out: &mut [u8])
-    requires { length (line_of (parts_of line)) ≤ length out.old }
-    ensures { out.new ≡ with_text (line_of (parts_of line.entry)) out.old }
+/// How many bytes a line has. No memory holds a line for which the sum is not exact.
+fn line_len(line: Pieces<'_>) -> usize
+    ensures { result ≡ Spec.as_usize (length (Spec.line_of_pieces line.entry)) }
 {
-    let after_name = put_at(out, 0, line.name);
-    let mail = put_at(out, after_name, " <");
-    let after_mail = put_at(out, mail, line.mail);
-    let time = put_at(out, after_mail, "> ");
-    put_at(out, time, line.time);
+    part_len(line.name, line.is_whole)
+        .saturating_add(" <".len())
+        .saturating_add(part_len(line.mail, line.is_whole))
+        .saturating_add("> ".len())
+        .saturating_add(line.time.len())
+}
+
+/// How many bytes of a part stand in a line.
+#[tactic(auto, using(crate::proofs::Kept::kept_lengths))]
+fn part_len(part: &[u8], is_whole: bool) -> usize
+    ensures { result ≡ length (Spec.part_put is_whole part.now) }
+{
+    if is_whole {
+        return part.len();
+    }
+    part.iter().filter(|b| is_kept(**b)).count()
+}
+
+/// Puts the bytes of a part that stand in a line into a buffer from this place on, and answers the place after them.
+fn put_part(out: &mut [u8], at: usize, part: &[u8], is_whole: bool) -> usize
+    requires room { at + length (Spec.part_put is_whole part.now) ≤ length out.old }
+    ensures bytes { out.new ≡ take at out.old ++ (Spec.part_put is_whole part.now ++ drop (at + length (Spec.part_put is_whole part.now)) out.old) }
+    ensures after { result ≡ at + length (Spec.part_put is_whole part.now) }
+{
+    if is_whole {
+        return put_bytes_at(out, at, part);
+    }
+    let mut place = at;
+    for byte in part {
+        if is_kept(*byte) {
+            place = put_bytes_at(out, place, &[*byte]);
+        }
+    }
+    place
 }

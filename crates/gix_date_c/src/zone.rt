@@ -1,21 +1,18 @@
 //! Zones that C holds, each read once for many calls.
 ghost use Rattle.std.specs.Prelude.{◌≡◌, MatchResult, None};
-ghost use Rattle.std.specs.Result.{result_map_both};
-ghost use Rattle.git_date.specs.Exact.ZoneTexts.{zone_offset};
-ghost use Rattle.gix_date_c.specs.Zones.{Copies, IsKept, IsRead, IsTaken, IsUtc, Reads};
 ghost use Rattle.gix_date_c.specs.declared.values.status.Status.TheVariants.{Memory};
+ghost use Rattle.gix_date_c.specs as Spec;
+ghost use Rattle.git_date.specs as GitDate;
 
 mod found;
-mod handle;
 mod held;
-mod lent;
 mod offset;
 mod shown;
 mod stored;
 
+pub(crate) use crate::handle::ShownZone;
 use crate::values::status::Status;
-use crate::zone::held::Held;
-pub(crate) use crate::zone::lent::ShownZone;
+pub(crate) use crate::zone::held::Held;
 pub(crate) use crate::zone::stored::CZone;
 use git_date::zone_offset;
 use std::alloc::Global;
@@ -28,9 +25,10 @@ pub(crate) struct TakenZone {
 }
 
 /// Reads a zone once for many calls: that of an offset, of a TZif file, or else of a POSIX rule. What was held before is freed.
+#[tactic(auto, using(crate::proofs::Named::reads, crate::proofs::Named::not_read))]
 #[unsafe(no_mangle)]
 pub extern "C" fn gix_date_zone_read(alloc: Global, text: &[u8], zone: &mut CZone) -> u32
-    ensures { Reads text.now zone.old zone.new result }
+    ensures { Spec.Reads text.now zone.old zone.new result }
 {
     match kept(alloc, text) {
         Ok(kept) => {
@@ -44,7 +42,7 @@ pub extern "C" fn gix_date_zone_read(alloc: Global, text: &[u8], zone: &mut CZon
 /// Frees what is held of a zone, which is UTC then.
 #[unsafe(no_mangle)]
 pub extern "C" fn gix_date_zone_free(alloc: Global, zone: &mut CZone)
-    ensures { IsUtc zone.new }
+    ensures { Spec.IsUtc zone.new }
 {
     *zone = CZone::at_offset(alloc, 0);
 }
@@ -53,7 +51,7 @@ pub extern "C" fn gix_date_zone_free(alloc: Global, zone: &mut CZone)
 /// freed by itself.
 #[unsafe(no_mangle)]
 pub extern "C" fn gix_date_zone_copy(alloc: Global, from: &ShownZone, zone: &mut CZone) -> u32
-    ensures { Copies from.now zone.old zone.new result }
+    ensures { Spec.Copies from.now zone.old zone.new result }
 {
     match from.copied(alloc) {
         Ok(copy) => {
@@ -66,7 +64,7 @@ pub extern "C" fn gix_date_zone_copy(alloc: Global, from: &ShownZone, zone: &mut
 
 /// The zone that a text names, out of C's hands.
 fn kept(alloc: Global, text: &[u8]) -> Result<TakenZone, Status>
-    ensures { IsKept (zone_offset text.now) text.now result }
+    ensures { Spec.IsKept (GitDate.zone_offset text.now) text.now result }
 {
     match zone_offset(text) {
         Some(offset) => Ok(TakenZone { offset, held: None }),
@@ -76,35 +74,25 @@ fn kept(alloc: Global, text: &[u8]) -> Result<TakenZone, Status>
 
 /// The zone of a file or a rule, which is held.
 fn kept_held(alloc: Global, text: &[u8]) -> Result<TakenZone, Status>
-    ensures { IsKept None text.now result }
+    ensures { Spec.IsKept None text.now result }
 {
     Ok(TakenZone {
         offset: 0,
-        held: Some(boxed(alloc, text)?),
+        held: Some(in_box(alloc, Held::of(alloc, text)?)?),
     })
-}
-
-/// A zone that is read, in a box.
-fn boxed(alloc: Global, text: &[u8]) -> Result<Box<Held>, Status>
-    ensures { IsRead text.now (result_map_both (λ held. held.value) (λ status. status) result) }
-{
-    in_box(alloc, Held::of(alloc, text)?)
 }
 
 /// A zone that is held, in a box.
 pub(crate) fn in_box(alloc: Global, held: Held) -> Result<Box<Held>, Status>
     ensures { MatchResult result (λ boxed. boxed.value ≡ held) (λ status. status ≡ Memory) }
 {
-    match Box::new(alloc, held) {
-        Ok(held) => Ok(held),
-        Err(_) => Err(Status::Memory),
-    }
+    Box::new(alloc, held).map_err(|_| Status::Memory)
 }
 
 impl CZone {
     /// A zone in C's hands.
     fn given(alloc: Global, taken: TakenZone) -> CZone
-        ensures { IsTaken result taken }
+        ensures { Spec.IsTaken result taken }
     {
         let TakenZone { offset, held } = taken;
         match held {

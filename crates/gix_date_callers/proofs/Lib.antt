@@ -1,1 +1,1 @@
-pub mod RawDates
+pub mod Outcomes

@@ -1,4 +1,3 @@
-pub mod Words
-pub mod SignatureWords
-pub mod GitDateWords
+-- The words of definitions. Made by scripts/words.
 pub mod Authored
+pub use Authored.{IsAuthored}

@@ -1,15 +1,9 @@
 //! Three callers of `gix_date`, as docs/CALLING.md shows them.
 ghost use Rattle.std.specs.Prelude.{◌≡◌, Some, Err, Ok, IfErr, drop, ℕ};
-ghost use Rattle.gix_date.specs.Careful.Laws.{in_zone};
-ghost use Rattle.gix_date.specs.Careful.Outcome.{careful_reading, default_options, CarefulOutcome, Unclear};
-ghost use Rattle.gix_date.specs.Families.Order.{first_family, ParseOutcome};
-ghost use Rattle.gix_date.specs.Printing.LocalClocks.{HasFourDigitFields};
-ghost use Rattle.gix_date.specs.Printing.NamedTexts.{iso8601_text};
-ghost use Rattle.gix_date.specs.Printing.PrintedTimes.{PrintsText};
-ghost use Rattle.gix_date.specs.Fields.Zoned.{IsConvertible, IsMoment};
 ghost use Rattle.gix_date.specs.declared.error.Error.TheVariants.{Conversion};
 ghost use Rattle.gix_date.specs.declared.time.Time.{Time as Read};
 ghost use Rattle.jiff.specs.declared.zoned.Zoned.{Zoned as Moment};
+ghost use Rattle.gix_date.specs as GixDate;
 
 use gix_date::time::format::ISO8601;
 use gix_date::{CarefulError, CarefulOptions, Error, Time, WithoutOffset, parse, parse_carefully};
@@ -18,9 +12,9 @@ use std::alloc::Global;
 
 /// Parses a date that was typed at the moment `now`.
 pub fn date_typed(alloc: Global, date: &str, now: Time) -> Result<Time, Error>
-    ensures typed { IsConvertible now → (moment : Moment) × IsMoment now moment
-        × ParseOutcome (first_family date.now) date.now (Some moment) result }
-    ensures refuses { ¬ (IsConvertible now) → result ≡ Err Conversion }
+    ensures typed { GixDate.IsConvertible now → (moment : Moment) × GixDate.IsMoment now moment
+        × GixDate.ParseOutcome (GixDate.first_family date.now) date.now (Some moment) result }
+    ensures refuses { ¬ (GixDate.IsConvertible now) → result ≡ Err Conversion }
 {
     let moment = now.to_zoned()?;
     parse(alloc, date, Some(moment))
@@ -30,8 +24,8 @@ pub fn date_typed(alloc: Global, date: &str, now: Time) -> Result<Time, Error>
 /// `30 min ago`, or the whole text.
 pub fn date_meant<'a>(date: &'a str, now: Zoned<'_>) -> Result<Time, &'a str>
     ensures time { (t : Read) → result ≡ Ok t
-        → CarefulOutcome (careful_reading (in_zone default_options) date.now) (Some now.entry) (Ok t) }
-    ensures rest { (place : ℕ) → careful_reading (in_zone default_options) date.now ≡ Unclear place
+        → GixDate.CarefulOutcome (GixDate.careful_reading (GixDate.in_zone GixDate.default_options) date.now) (Some now.entry) (Ok t) }
+    ensures rest { (place : ℕ) → GixDate.careful_reading (GixDate.in_zone GixDate.default_options) date.now ≡ GixDate.Unclear place
         → IfErr result (λ rest. rest.now ≡ drop place date.now) }
 {
     let options = CarefulOptions {
@@ -47,7 +41,7 @@ pub fn date_meant<'a>(date: &'a str, now: Zoned<'_>) -> Result<Time, &'a str>
 
 /// Prints a time as `git log --date=iso` does.
 pub fn iso_date(alloc: Global, time: Time) -> Result<String, Error>
-    ensures { HasFourDigitFields time → PrintsText iso8601_text time result }
+    ensures { GixDate.HasFourDigitFields time → GixDate.PrintsText GixDate.iso8601_text time result }
 {
     gix_date_laws::printed(time);
     time.format(alloc, ISO8601.into())

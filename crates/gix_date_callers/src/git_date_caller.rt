@@ -1,6 +1,6 @@
 //! Callers of `git_date`, as docs/GIT_DATES.md shows them.
 ghost use Rattle.std.specs.Prelude.{◌≡◌, Ok, Err, IfOk, IfErr, drop, option_map};
-ghost use Rattle.git_date.specs.Exact.Outcome.{DateOutcome};
+ghost use Rattle.git_date.specs as GitDate;
 
 use git_date::{DateError, ReadDate, parse_date};
 use gix_date::Zoned;
@@ -10,10 +10,10 @@ pub fn date_and_ignored<'a>(
     text: &'a str,
     now: Zoned<'_>,
 ) -> Result<(ReadDate, Option<&'a str>), DateError>
-    ensures date { IfOk result (λ found. DateOutcome now.entry text.now (Ok found.0)) }
+    ensures date { IfOk result (λ found. GitDate.DateOutcome now.entry text.now (Ok found.0)) }
     ensures rest { IfOk result (λ found. option_map (λ rest. rest.now) found.1
         ≡ option_map (λ place. drop place text.now) found.0.ignored) }
-    ensures refuses { IfErr result (λ e. DateOutcome now.entry text.now (Err e)) }
+    ensures refuses { IfErr result (λ e. GitDate.DateOutcome now.entry text.now (Err e)) }
 {
     let date = match parse_date(text.as_bytes(), now) {
         Ok(date) => date,

@@ -1,29 +1,14 @@
 //! More callers of `gix_date`: docs/CALLING.md says what each is for.
 ghost use Rattle.std.specs.Prelude.{◌≡◌, ◌≢◌, ◌↔◌, ◌⊎◌, ◌<◌, ◌-ℤ◌, pos, true, false, IsTrue, IsSome, Some, None, Err, Ok, IfSome, IfNone, IsOk, IsOkAnd, IsSomeAnd, IfOk, MatchResult, option_map, replicate, string_bytes, unwrap_or, ℤ, Option};
 ghost use Rattle.std.specs.Str.{IsUtf8};
-ghost use Rattle.gix_date.specs.Families.Answer.{Absolute, Relative};
-ghost use Rattle.gix_date.specs.Header.Canonical.{is_canonical_header};
-ghost use Rattle.gix_date.specs.Families.Epoch.{epoch_time};
-ghost use Rattle.gix_date.specs.Families.Order.{first_family, first_family_by, ParseOutcome};
-ghost use Rattle.gix_date.specs.Relative.FixedZones.{earlier};
-ghost use Rattle.gix_date.specs.Header.Reading.{header_time};
-ghost use Rattle.gix_date.specs.Header.Text.{header_text};
-ghost use Rattle.gix_date.specs.Printing.Formats.{IsTextOf, PrintsOrSeconds, PrintsPatternOrSeconds};
-ghost use Rattle.gix_date.specs.Printing.FormatBuf.{HasNamedText};
-ghost use Rattle.gix_date.specs.Families.Raw.{is_minute_offset, raw_time, raw_time_by};
-ghost use Rattle.gix_date.specs.Printing.ReadingBack.{RoundTrips, IsMinuteOffset, HasClock};
-ghost use Rattle.gix_date.specs.Relative.Dates.{RelativeDate, relative_date};
-ghost use Rattle.gix_date.specs.Header.TimeBuf.{text_in};
-ghost use Rattle.gix_date.specs.Text.LongNames.{month_told};
-ghost use Rattle.gix_date.specs.Text.Names.{month_name};
-ghost use Rattle.gix_date.specs.Fields.Zoned.{IsConvertible, is_instant, time_in, time_in_utc};
+ghost use Rattle.gix_date.specs.Families.Answer.{Relative};
 ghost use Rattle.gix_date.specs.declared.error.Error.TheVariants.{Memory, OffsetTooWide, Range};
 ghost use Rattle.gix_date.specs.declared.time.Time.{Time as Read};
 ghost use Rattle.gix_date.specs.declared.time.format.Format.TheVariants.{Custom, Unix};
-ghost use Rattle.gix_date.specs.Relative.Steps.{zone_of};
 ghost use Rattle.jiff.specs.Words.{plain_zone, zoned_nanos, nanos_of_seconds};
 ghost use Rattle.jiff.specs.declared.tz.timezone.TimeZone.{TimeZone as Place};
 ghost use Rattle.jiff.specs.declared.zoned.Zoned.{Zoned as Moment};
+ghost use Rattle.gix_date.specs as GixDate;
 
 use crate::caller::date_typed;
 use gix_date::bytes::text_of;
@@ -47,8 +32,8 @@ use std::time::Clock;
 /// The text of a commit header in memory. It is refused where the time has none, and when out of memory, which is the
 /// fault of the `Vec` that is written to.
 pub fn header_bytes(alloc: Global, time: Time) -> Result<Vec<u8>, Error>
-    ensures text { IfOk result (λ bytes. header_text time ≡ Some bytes.items) }
-    ensures wide { header_text time ≡ None → result ≡ Err OffsetTooWide }
+    ensures text { IfOk result (λ bytes. GixDate.header_text time ≡ Some bytes.items) }
+    ensures wide { GixDate.header_text time ≡ None → result ≡ Err OffsetTooWide }
 {
     let mut out = Device::new(Vec::new(alloc));
     time.write_to(&mut out)?;
@@ -57,7 +42,7 @@ pub fn header_bytes(alloc: Global, time: Time) -> Result<Vec<u8>, Error>
 
 /// The time of a header in bytes, such as a line of a commit. None for bytes that are not UTF-8.
 pub fn header_in_bytes(header: &[u8]) -> Option<Time>
-    ensures text { IsUtf8 header.now → result ≡ header_time header.now }
+    ensures text { IsUtf8 header.now → result ≡ GixDate.header_time header.now }
     ensures other { ¬ (IsUtf8 header.now) → result ≡ None }
 {
     parse_header(text_of(header)?)
@@ -65,7 +50,7 @@ pub fn header_in_bytes(header: &[u8]) -> Option<Time>
 
 /// The month that a word tells, by the three letters that dates show: `Aug` for `august`.
 pub fn short_month(word: &[u8]) -> Option<&'static str>
-    ensures { option_map (λ name. name.now) result ≡ option_map month_name (month_told word.now) }
+    ensures { option_map (λ name. name.now) result ≡ option_map GixDate.month_name (GixDate.month_told word.now) }
 {
     match month_told(word) {
         Some(month) => Some(month_name(month)),
@@ -75,8 +60,8 @@ pub fn short_month(word: &[u8]) -> Option<&'static str>
 
 /// The time of a header that is written as Git writes it, and of no other.
 pub fn read_canonical(header: &str) -> Option<Time>
-    ensures some { IfSome result (λ t. (header_time header.now ≡ Some t) × (is_canonical_header header.now ≡ true)) }
-    ensures none { IfNone result (is_canonical_header header.now ≢ true) }
+    ensures some { IfSome result (λ t. (GixDate.header_time header.now ≡ Some t) × (GixDate.is_canonical_header header.now ≡ true)) }
+    ensures none { IfNone result (GixDate.is_canonical_header header.now ≢ true) }
 {
     laws::canonical(header);
     if !is_canonical_header(header) {
@@ -88,7 +73,7 @@ pub fn read_canonical(header: &str) -> Option<Time>
 /// A time whose offset is whole minutes short of a day, written as in a header and parsed as a date: the same. No
 /// memory is taken.
 pub fn kept_in_date(alloc: Global, time: Time) -> Result<Time, Error>
-    requires { IsMinuteOffset time.offset }
+    requires { GixDate.IsMinuteOffset time.offset }
     ensures { result ≡ Ok time }
 {
     laws::raw_read_back_wide(time);
@@ -98,9 +83,10 @@ pub fn kept_in_date(alloc: Global, time: Time) -> Result<Time, Error>
 
 /// The time of a date as programs store it, seconds and an offset, also where that is of odd minutes, as in some
 /// commits.
+#[tactic(auto, using(crate::proofs::Outcomes::minute_result))]
 pub fn stored_date(alloc: Global, date: &str) -> Result<Time, Error>
-    ensures raw { (t : Read) → raw_time_by is_minute_offset date.now ≡ Some t → result ≡ Ok t }
-    ensures outcome { ParseOutcome (first_family_by is_minute_offset date.now) date.now None result }
+    ensures raw { (t : Read) → GixDate.raw_time_by GixDate.is_minute_offset date.now ≡ Some t → result ≡ Ok t }
+    ensures outcome { GixDate.ParseOutcome (GixDate.first_family_by GixDate.is_minute_offset date.now) date.now None result }
 {
     gix_date_laws::comes_first(date, RawOffsets::WholeMinutes);
     parse_with(alloc, date, None, RawOffsets::WholeMinutes)
@@ -109,11 +95,11 @@ pub fn stored_date(alloc: Global, date: &str) -> Result<Time, Error>
 /// Whether a date is read from the moment, so that it has to be handed in: never for what programs store, which are raw
 /// texts and bare epochs. No memory is taken, also where the text is no date.
 pub fn asks_for_a_moment(date: &str) -> bool
-    ensures raw { (t : Read) → raw_time date.now ≡ Some t → result ≡ false }
-    ensures epoch { (t : Read) → epoch_time date.now ≡ Some t → result ≡ false }
-    ensures relative { IsTrue result → IsSome (relative_date date.now) }
-    ensures asks { (counts : RelativeDate) → first_family date.now ≡ Some (Relative counts) → result ≡ true }
-    ensures absolute { (t : Read) → first_family date.now ≡ Some (Absolute t) → result ≡ false }
+    ensures raw { (t : Read) → GixDate.raw_time date.now ≡ Some t → result ≡ false }
+    ensures epoch { (t : Read) → GixDate.epoch_time date.now ≡ Some t → result ≡ false }
+    ensures relative { IsTrue result → IsSome (GixDate.relative_date date.now) }
+    ensures asks { (counts : GixDate.RelativeDate) → GixDate.first_family date.now ≡ Some (Relative counts) → result ≡ true }
+    ensures absolute { (t : Read) → GixDate.first_family date.now ≡ Some (GixDate.Absolute t) → result ≡ false }
 {
     laws::disjoint(date);
     gix_date_laws::comes_first(date, RawOffsets::Quarter);
@@ -122,8 +108,8 @@ pub fn asks_for_a_moment(date: &str) -> bool
 
 /// The time of a date that means the same at any moment.
 pub fn absolute_date(alloc: Global, date: &str) -> Result<Time, Error>
-    ensures absolute { IfOk result (λ t. first_family date.now ≡ Some (Absolute t)) }
-    ensures outcome { ParseOutcome (first_family date.now) date.now None result }
+    ensures absolute { IfOk result (λ t. GixDate.first_family date.now ≡ Some (GixDate.Absolute t)) }
+    ensures outcome { GixDate.ParseOutcome (GixDate.first_family date.now) date.now None result }
 {
     parse(alloc, date, None)
 }
@@ -132,12 +118,13 @@ pub fn absolute_date(alloc: Global, date: &str) -> Result<Time, Error>
 /// the date has none. The fault of `jiff` where clock or zone are not read.
 ///
 /// A program hands in its own runtime, as `resolved(&rt, date)` in `main`.
+#[tactic(auto, using(crate::proofs::Outcomes::resolved_at))]
 pub fn resolved<R: Clock + Env + Files + AllocGlobal + Clone + Drop>(
     rt: &R,
     date: &str,
 ) -> Result<Result<Time, Error>, jiff::Error>
     ensures { IfOk result (λ answer. (moment : Moment)
-        × ParseOutcome (first_family date.now) date.now (Some moment) answer) }
+        × GixDate.ParseOutcome (GixDate.first_family date.now) date.now (Some moment) answer) }
 {
     let zones = TimeZoneDatabase::from_env(rt)?;
     let named = SystemTimeZone::read(rt)?;
@@ -148,22 +135,22 @@ pub fn resolved<R: Clock + Env + Files + AllocGlobal + Clone + Drop>(
 /// The date of a line in a log, or the seconds of a time that has no text in that format. It fails only when out of
 /// memory.
 pub fn log_date(alloc: Global, time: Time, format: CustomFormat) -> Result<String, Error>
-    ensures { PrintsOrSeconds time (Custom format) result }
+    ensures { GixDate.PrintsOrSeconds time (Custom format) result }
 {
     time.format_or_unix(alloc, format.into())
 }
 
 /// The log's date by a pattern that a user wrote, as that of `git log --date=format:..`.
 pub fn log_date_by(alloc: Global, time: Time, pattern: &str) -> Result<String, Error>
-    ensures { PrintsPatternOrSeconds time pattern.now result }
+    ensures { GixDate.PrintsPatternOrSeconds time pattern.now result }
 {
     time.format_by_pattern_or_unix(alloc, pattern)
 }
 
 /// The date of a line in a log without memory: the seconds of a time that has no such text.
 pub fn log_text(time: Time, format: CustomFormat) -> FormatBuf
-    ensures { IsTextOf time (Custom format) result.bytes
-        ⊎ ((¬ (HasNamedText time format.pattern.now)) × IsTextOf time Unix result.bytes) }
+    ensures { GixDate.IsTextOf time (Custom format) result.bytes
+        ⊎ ((¬ (GixDate.HasNamedText time format.pattern.now)) × GixDate.IsTextOf time Unix result.bytes) }
 {
     if let Some(text) = time.format_to_buf(format.into()) {
         return text;
@@ -177,11 +164,11 @@ pub fn log_text(time: Time, format: CustomFormat) -> FormatBuf
 /// The text by which a program stores a time, in one of the six named formats with a clock; `None` for a time that need
 /// not be read back from it. It fails only when out of memory.
 pub fn store(alloc: Global, time: Time, format: CustomFormat) -> Result<Option<String>, Error>
-    requires { HasClock format.pattern.now }
-    ensures some { RoundTrips time → MatchResult result
-        (λ stored. IsSomeAnd stored (λ text. first_family (string_bytes text) ≡ Some (Absolute time)))
+    requires { GixDate.HasClock format.pattern.now }
+    ensures some { GixDate.RoundTrips time → MatchResult result
+        (λ stored. IsSomeAnd stored (λ text. GixDate.first_family (string_bytes text) ≡ Some (GixDate.Absolute time)))
         (λ e. e ≡ Memory) }
-    ensures none { ¬ (RoundTrips time) → result ≡ Ok None }
+    ensures none { ¬ (GixDate.RoundTrips time) → result ≡ Ok None }
 {
     if !time.round_trips() {
         return Ok(None);
@@ -192,7 +179,7 @@ pub fn store(alloc: Global, time: Time, format: CustomFormat) -> Result<Option<S
 
 /// The time that was stored as this text, at any moment or none.
 pub fn load(alloc: Global, text: &str, now: Option<Zoned<'_>>) -> Result<Time, Error>
-    ensures { (t : Read) → first_family text.now ≡ Some (Absolute t) → result ≡ Ok t }
+    ensures { (t : Read) → GixDate.first_family text.now ≡ Some (GixDate.Absolute t) → result ≡ Ok t }
 {
     parse(alloc, text, now)
 }
@@ -204,9 +191,9 @@ pub fn kept(
     format: CustomFormat,
     now: Option<Zoned<'_>>,
 ) -> Result<Option<Time>, Error>
-    requires { HasClock format.pattern.now }
-    ensures some { RoundTrips time → MatchResult result (λ back. back ≡ Some time) (λ e. e ≡ Memory) }
-    ensures none { ¬ (RoundTrips time) → result ≡ Ok None }
+    requires { GixDate.HasClock format.pattern.now }
+    ensures some { GixDate.RoundTrips time → MatchResult result (λ back. back ≡ Some time) (λ e. e ≡ Memory) }
+    ensures none { ¬ (GixDate.RoundTrips time) → result ≡ Ok None }
 {
     match store(alloc, time, format)? {
         Some(text) => Ok(Some(load(alloc, &text, now)?)),
@@ -221,7 +208,7 @@ pub fn kept_by_each(
     time: Time,
     now: Option<Zoned<'_>>,
 ) -> Result<[Option<Time>; 6], Error>
-    ensures { RoundTrips time → MatchResult result (λ times. times ≡ replicate 6 (Some time)) (λ e. e ≡ Memory) }
+    ensures { GixDate.RoundTrips time → MatchResult result (λ times. times ≡ replicate 6 (Some time)) (λ e. e ≡ Memory) }
 {
     let mail = kept(alloc, time, RFC2822, now)?;
     let git_mail = kept(alloc, time, GIT_RFC2822, now)?;
@@ -234,9 +221,9 @@ pub fn kept_by_each(
 
 /// The time a day before this one, at its offset: what `yesterday` names there, or `Range` where that has no instant.
 pub fn day_before(alloc: Global, time: Time) -> Result<Time, Error>
-    requires { IsConvertible time }
-    ensures time { MatchResult result (λ t. t ≡ earlier time (pos 86_400)) (λ e. e ≡ Range) }
-    ensures exists { IsOk result ↔ (is_instant (time.seconds -ℤ pos 86_400) ≡ true) }
+    requires { GixDate.IsConvertible time }
+    ensures time { MatchResult result (λ t. t ≡ GixDate.earlier time (pos 86_400)) (λ e. e ≡ Range) }
+    ensures exists { IsOk result ↔ (GixDate.is_instant (time.seconds -ℤ pos 86_400) ≡ true) }
 {
     gix_date_laws::earlier(time, &[]);
     date_typed(alloc, "yesterday", time)
@@ -245,7 +232,7 @@ pub fn day_before(alloc: Global, time: Time) -> Result<Time, Error>
 /// What `yesterday` names at a moment in any zone: the time 86400 seconds before, or `Range` where `jiff` has no such instant.
 pub fn day_before_in_zone(alloc: Global, moment: Zoned<'_>) -> Result<Time, Error>
     ensures { MatchResult result
-        (λ t. t ≡ time_in (zone_of moment.entry) (zoned_nanos moment.entry -ℤ nanos_of_seconds (pos 86_400))) (λ e. e ≡ Range) }
+        (λ t. t ≡ GixDate.time_in (GixDate.zone_of moment.entry) (zoned_nanos moment.entry -ℤ nanos_of_seconds (pos 86_400))) (λ e. e ≡ Range) }
 {
     gix_date_laws::named_instants("yesterday", &moment);
     parse(alloc, "yesterday", Some(moment))
@@ -253,21 +240,21 @@ pub fn day_before_in_zone(alloc: Global, moment: Zoned<'_>) -> Result<Time, Erro
 
 /// The time of a commit that is made at this instant in its author's zone, and none where the zone is not known.
 pub fn authored(clock: Timestamp, zone: Option<TimeZone<'_>>) -> Option<Time>
-    ensures { result ≡ option_map (λ z. time_in (plain_zone z) clock.nanosecond) zone.entry }
+    ensures { result ≡ option_map (λ z. GixDate.time_in (plain_zone z) clock.nanosecond) zone.entry }
 {
     Time::now_local(clock, zone)
 }
 
 /// The time of a commit that a program makes at this instant, in UTC.
 pub fn authored_in_utc(clock: Timestamp) -> Time
-    ensures { result ≡ time_in_utc clock.nanosecond }
+    ensures { result ≡ GixDate.time_in_utc clock.nanosecond }
 {
     Time::now_utc(clock)
 }
 
 /// A second buffer with the same text. It takes no memory, so it never fails.
 pub fn doubled(buf: &TimeBuf) -> Result<TimeBuf, AllocError>
-    ensures { IsOkAnd result (λ copy. text_in copy ≡ text_in buf.now) }
+    ensures { IsOkAnd result (λ copy. GixDate.text_in copy ≡ GixDate.text_in buf.now) }
 {
     gix_date_laws::clones();
     buf.clone()
@@ -276,17 +263,18 @@ pub fn doubled(buf: &TimeBuf) -> Result<TimeBuf, AllocError>
 /// The text of a time, for a log. Where its offset has no text this fails as it does when out of memory; `to_str` tells
 /// the two apart.
 pub fn shown(alloc: Global, time: Time) -> Result<String, AllocError>
-    ensures { IfOk result (λ text. IfSome (header_text time) (λ due. string_bytes text ≡ due)) }
+    ensures { IfOk result (λ text. IfSome (GixDate.header_text time) (λ due. string_bytes text ≡ due)) }
 {
     format!(in alloc; "{time}")
 }
 
 /// The time of a commit made now, in the machine's zone, or in UTC if that is not found.
+#[tactic(auto, using(crate::proofs::Outcomes::made_at))]
 pub fn commit_time<R: Clock + Env + Files + AllocGlobal + Clone + Drop>(
     rt: &R,
 ) -> Result<Time, jiff::Error>
     ensures { IfOk result (λ t. (instant : ℤ) × (zone : Option Place)
-        × (t ≡ unwrap_or (option_map (λ z. time_in (plain_zone z) instant) zone) (time_in_utc instant))) }
+        × (t ≡ unwrap_or (option_map (λ z. GixDate.time_in (plain_zone z) instant) zone) (GixDate.time_in_utc instant))) }
 {
     let zones = TimeZoneDatabase::from_env(rt)?;
     let named = SystemTimeZone::read(rt)?;

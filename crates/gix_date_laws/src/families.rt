@@ -1,11 +1,5 @@
 //! Laws of families: which texts they hold, and whose answer comes first.
-ghost use Rattle.gix_date.specs.Families.Order.{Iso8601, Iso8601Strict, GitForm};
-ghost use Rattle.gix_date.specs.Families.Laws.{Agree, ComesFirst, HasOneOutcome};
-ghost use Rattle.gix_date.specs.Families.Raw.{allows};
-ghost use Rattle.gix_date.specs.Git.Forms.{git_time};
-ghost use Rattle.gix_date.specs.Git.Grammar.{IsGitText};
-ghost use Rattle.gix_date.specs.Families.Shapes.{IsInItsRow};
-ghost use Rattle.gix_date.specs.Families.Patterns.{short_layout, rfc2822_layout, iso8601_layout, iso8601_strict_layout, gitoxide_layout, default_layout, time_answer, real_day_answer, short_answer, rfc2822_answer, iso8601_answer, iso8601_strict_answer, gitoxide_answer, default_answer, Accepts, IsMeaning};
+ghost use Rattle.gix_date.specs as GixDate;
 
 use gix_date::RawOffsets;
 
@@ -13,32 +7,34 @@ use gix_date::RawOffsets;
 /// written so.
 #[tactic(auto, using(gix_date::proofs::Fields::Layouts::dates_spelled))]
 pub fn spelled()
-    ensures day { Accepts short_answer (IsMeaning short_layout real_day_answer) }
-    ensures rfc2822 { Accepts rfc2822_answer (IsMeaning rfc2822_layout time_answer) }
-    ensures iso8601 { Accepts iso8601_answer (IsMeaning iso8601_layout time_answer) }
-    ensures strict { Accepts iso8601_strict_answer (IsMeaning iso8601_strict_layout time_answer) }
-    ensures gitoxide { Accepts gitoxide_answer (IsMeaning gitoxide_layout time_answer) }
-    ensures default { Accepts default_answer (IsMeaning default_layout time_answer) }
+    ensures day { GixDate.Accepts GixDate.short_answer (GixDate.IsMeaning GixDate.short_layout GixDate.real_day_answer) }
+    ensures rfc2822 { GixDate.Accepts GixDate.rfc2822_answer (GixDate.IsMeaning GixDate.rfc2822_layout GixDate.time_answer) }
+    ensures iso8601 { GixDate.Accepts GixDate.iso8601_answer (GixDate.IsMeaning GixDate.iso8601_layout GixDate.time_answer) }
+    ensures strict { GixDate.Accepts GixDate.iso8601_strict_answer (GixDate.IsMeaning GixDate.iso8601_strict_layout GixDate.time_answer) }
+    ensures gitoxide { GixDate.Accepts GixDate.gitoxide_answer (GixDate.IsMeaning GixDate.gitoxide_layout GixDate.time_answer) }
+    ensures default { GixDate.Accepts GixDate.default_answer (GixDate.IsMeaning GixDate.default_layout GixDate.time_answer) }
 {}
 
 /// Git's own forms hold exactly the texts that are a date, a gap and a rest, with white space around them. The rest is
 /// cut into a clock and an offset (`IsCut`).
+#[tactic(auto, using(crate::proofs::Git::Grammar::git_spelled))]
 pub fn spelled_git()
-    ensures { Accepts git_time IsGitText }
+    ensures { GixDate.Accepts GixDate.git_time GixDate.IsGitText }
 {}
 
 /// If ISO 8601 or its strict form and one of Git's own forms hold a text, they answer the same. So their order does not
 /// matter.
+#[tactic(auto, using(crate::proofs::Shared::Agreement::iso8601_git, crate::proofs::Shared::Agreement::strict_git))]
 pub fn agree(text: &str, raw: RawOffsets)
-    ensures iso8601 { Agree (allows raw) Iso8601 GitForm text.now }
-    ensures strict { Agree (allows raw) Iso8601Strict GitForm text.now }
+    ensures iso8601 { GixDate.Agree (GixDate.allows raw) GixDate.Iso8601 GixDate.GitForm text.now }
+    ensures strict { GixDate.Agree (GixDate.allows raw) GixDate.Iso8601Strict GixDate.GitForm text.now }
 {}
 
 /// The answer of a family that holds the text is the one that `parse_with` uses, by either rule. A relative text has to
 /// be of no Git form. Only for a relative text does the result depend on the moment.
 #[tactic(auto, using(crate::proofs::Shared::Agreement::comes_first))]
 pub fn comes_first(text: &str, raw: RawOffsets)
-    ensures { ComesFirst (allows raw) text.now }
+    ensures { GixDate.ComesFirst (GixDate.allows raw) text.now }
 {}
 
 /// The first family that holds a text is also the first that holds it among the families of its row, by either rule. The
@@ -46,10 +42,11 @@ pub fn comes_first(text: &str, raw: RawOffsets)
 /// with `-`, with `.` or with neither, a letter at the front, and all other texts.
 #[tactic(auto, using(gix_date::proofs::Families::Shapes::is_in_its_row))]
 pub fn dispatched_by_rows(text: &str, raw: RawOffsets)
-    ensures { IsInItsRow (allows raw) text.now }
+    ensures { GixDate.IsInItsRow (GixDate.allows raw) text.now }
 {}
 
 /// The answer of the first family and the moment determine the result of a call that takes no memory.
+#[tactic(auto, using(crate::proofs::Shared::Agreement::one_outcome))]
 pub fn one_outcome()
-    ensures { HasOneOutcome }
+    ensures { GixDate.HasOneOutcome }
 {}

@@ -3,14 +3,14 @@
 //! They stand in a crate of their own, so that a program that stands on `gix_date` does not prove them first.
 #![tactic(auto)]
 
-mod careful;
 mod families;
 mod formats;
 mod relative;
 mod values;
 
-pub use careful::{careful_is_parsed, spelled_careful};
 pub use families::{agree, comes_first, dispatched_by_rows, one_outcome, spelled, spelled_git};
 pub use formats::{printed, short_read_back};
-pub use relative::{earlier, named_instants, named_once, spelled_relative};
+pub use relative::{
+    careful_is_parsed, earlier, named_instants, named_once, spelled_careful, spelled_relative,
+};
 pub use values::{clones, constants, equality, hash, limits, order, white_space};

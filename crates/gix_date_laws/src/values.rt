@@ -1,12 +1,6 @@
 //! Laws of values: constants, limits, clones, equality, order and hash, and white space.
 ghost use Rattle.std.specs.Prelude.{◌≡◌, pos, neg_ℤ, length, IfSome};
-ghost use Rattle.gix_date.specs.Families.Epoch.{min_bare_epoch};
-ghost use Rattle.gix_date.specs.Header.Text.{header_text, hundred_hours, max_text_len};
-ghost use Rattle.gix_date.specs.Families.Raw.{max_raw_hours, max_wide_hours, max_wide_minutes};
-ghost use Rattle.gix_date.specs.Text.SpaceWords.{StdWhiteSpaceIsUnicodes};
-ghost use Rattle.gix_date.specs.Header.TimeBuf.{text_in};
-ghost use Rattle.gix_date.specs.Families.Patterns.{max_date_offset};
-ghost use Rattle.gix_date.specs.Values.{ComparesParts, AgreesWith, IsEquality, FeedsParts, FeedsAlike};
+ghost use Rattle.gix_date.specs as GixDate;
 
 use gix_date::Time;
 use gix_date::parsing::TimeBuf;
@@ -20,45 +14,46 @@ pub fn constants()
 {}
 
 /// The limits that contracts name, as numbers. The least time has the longest header text.
+#[tactic(auto, using(crate::proofs::Printing::least_text))]
 pub fn limits()
-    ensures min_bare_epoch { min_bare_epoch ≡ pos 100_000_000 }
-    ensures max_raw_hours { max_raw_hours ≡ 14 }
-    ensures max_wide_hours { max_wide_hours ≡ 23 }
-    ensures max_wide_minutes { max_wide_minutes ≡ 59 }
-    ensures max_date_offset { max_date_offset ≡ 86_340 }
-    ensures offset_without_text { hundred_hours ≡ 360_000 }
-    ensures max_text_len { max_text_len ≡ 26 }
-    ensures text_of_min { IfSome (header_text Time.MIN) (λ text. length text ≡ max_text_len) }
+    ensures min_bare_epoch { GixDate.min_bare_epoch ≡ pos 100_000_000 }
+    ensures max_raw_hours { GixDate.max_raw_hours ≡ 14 }
+    ensures max_wide_hours { GixDate.max_wide_hours ≡ 23 }
+    ensures max_wide_minutes { GixDate.max_wide_minutes ≡ 59 }
+    ensures max_date_offset { GixDate.max_date_offset ≡ 86_340 }
+    ensures offset_without_text { GixDate.hundred_hours ≡ 360_000 }
+    ensures max_text_len { GixDate.max_text_len ≡ 26 }
+    ensures text_of_min { IfSome (GixDate.header_text Time.MIN) (λ text. length text ≡ GixDate.max_text_len) }
 {}
 
 /// A clone of a time is that time, and one of a buffer holds the same text. No clone fails.
 pub fn clones()
     ensures time { (a b : Time) → ⟦<Time as Clone>⟧.is_clone a b → b ≡ a }
     ensures time_succeeds { (a : Time) → ⟦<Time as Clone>⟧.is_infallible a }
-    ensures buffer { (a b : TimeBuf) → ⟦<TimeBuf as Clone>⟧.is_clone a b → text_in b ≡ text_in a }
+    ensures buffer { (a b : TimeBuf) → ⟦<TimeBuf as Clone>⟧.is_clone a b → GixDate.text_in b ≡ GixDate.text_in a }
     ensures buffer_succeeds { (a : TimeBuf) → ⟦<TimeBuf as Clone>⟧.is_infallible a }
 {}
 
 /// Times are ordered by their seconds, and then by their offset. Two times are equal in this order iff `==` holds.
 pub fn order()
-    ensures by_parts { ComparesParts ⟦<Time as Ord>⟧.cmp }
-    ensures agrees { AgreesWith ⟦<Time as Ord>⟧.cmp ⟦<Time as PartialEq>⟧.eq }
+    ensures by_parts { GixDate.ComparesParts ⟦<Time as Ord>⟧.cmp }
+    ensures agrees { GixDate.AgreesWith ⟦<Time as Ord>⟧.cmp ⟦<Time as PartialEq>⟧.eq }
 {}
 
 /// Times are equal by `==` iff both numbers are the same.
 pub fn equality()
-    ensures time { IsEquality ⟦<Time as PartialEq>⟧.eq }
+    ensures time { GixDate.IsEquality ⟦<Time as PartialEq>⟧.eq }
 {}
 
 /// A time feeds a hasher its seconds and then its offset. So equal times hash alike.
 pub fn hash()
-    ensures input { FeedsParts ⟦<Time as Hash>⟧.hash_input }
-    ensures alike { FeedsAlike ⟦<Time as PartialEq>⟧.eq ⟦<Time as Hash>⟧.hash_input }
+    ensures input { GixDate.FeedsParts ⟦<Time as Hash>⟧.hash_input }
+    ensures alike { GixDate.FeedsAlike ⟦<Time as PartialEq>⟧.eq ⟦<Time as Hash>⟧.hash_input }
 {}
 
 /// The white space between words is that of the standard library, which is Unicode's White_Space: these characters and
 /// no others.
 #[tactic(auto, using(crate::proofs::Letters::WhiteSpace::is_whitespace_listed))]
 pub fn white_space()
-    ensures { StdWhiteSpaceIsUnicodes }
+    ensures { GixDate.StdWhiteSpaceIsUnicodes }
 {}

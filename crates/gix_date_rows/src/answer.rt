@@ -2,7 +2,7 @@
 use git_date::{DateError, OwnDateError};
 use gix_date::{CarefulError, Error, ParseError, Time};
 use gix_signature::{IdentFault, SignatureError};
-use std::alloc::AllocError;
+use std::alloc::{AllocError, Global};
 use std::fmt;
 
 /// What a call answers.
@@ -20,8 +20,6 @@ pub(crate) enum Answer {
     Bytes(Vec<u8>),
     /// A refusal, by its name.
     Refused(&'static str),
-    /// The refusal of a relative text that is not careful, with the place from which on it is not clear.
-    Unclear(usize),
     /// A refusal, by its name, with its place.
     RefusedAt(&'static str, usize),
     /// The place of what was ignored, or `none`.
@@ -34,10 +32,18 @@ impl Answer {
 
     /// Whether it is a refusal.
     pub(crate) fn is_refusal(&self) -> bool {
-        matches!(
-            self,
-            Answer::Refused(_) | Answer::Unclear(_) | Answer::RefusedAt(_, _)
-        )
+        matches!(self, Answer::Refused(_) | Answer::RefusedAt(_, _))
+    }
+
+    /// Whether something is so.
+    pub(crate) fn of_bool(is_so: bool) -> Answer {
+        Answer::Word(if is_so { "yes" } else { "no" })
+    }
+
+    /// A copy of a text.
+    pub(crate) fn copied(alloc: Global, text: &str) -> Answer {
+        let copy: Result<String, AllocError> = String::from_str(alloc, text);
+        copy.into()
     }
 
     /// A time, or a refusal of this name where there is none.
@@ -52,19 +58,12 @@ impl Answer {
 impl fmt::Display for Answer {
     fn fmt<W: fmt::Write>(&self, f: &mut fmt::Formatter<W>) -> fmt::Result {
         match self {
-            Answer::Time(time) => {
-                let (seconds, offset) = (time.seconds, time.offset);
-                write!(f, "{seconds} {offset}")
-            }
-            Answer::Doubtful(time) => {
-                let (seconds, offset) = (time.seconds, time.offset);
-                write!(f, "{seconds} {offset} ?")
-            }
+            Answer::Time(Time { seconds, offset }) => write!(f, "{seconds} {offset}"),
+            Answer::Doubtful(Time { seconds, offset }) => write!(f, "{seconds} {offset} ?"),
             Answer::Word(word) => f.write_str(word),
             Answer::Text(text) => f.write_str(text.as_str()),
             Answer::Bytes(bytes) => write!(f, "{:?}", bytes.as_slice()),
             Answer::Refused(name) => f.write_str(name),
-            Answer::Unclear(place) => write!(f, "Unclear {place}"),
             Answer::RefusedAt(name, place) => write!(f, "{name} {place}"),
             Answer::Ignored(Some(place)) => write!(f, "{place}"),
             Answer::Ignored(None) => f.write_str("none"),
@@ -112,7 +111,7 @@ impl From<Result<Time, CarefulError>> for Answer {
     fn from(answer: Result<Time, CarefulError>) -> Answer {
         match answer {
             Ok(time) => Answer::Time(time),
-            Err(CarefulError::Unclear(place)) => Answer::Unclear(place),
+            Err(CarefulError::Unclear(place)) => Answer::RefusedAt("Unclear", place),
             Err(CarefulError::AfterYear9999) => Answer::Refused("AfterYear9999"),
             Err(CarefulError::Refused(refusal)) => refusal.into(),
         }

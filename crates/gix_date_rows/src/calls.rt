@@ -62,7 +62,7 @@ use gix_date::device::Device;
 use gix_date::parsing::TimeBuf;
 use gix_date::time::{Format, FormatBuf};
 use gix_date::{CarefulOptions, Error, RawOffsets, Time, parse_header};
-use gix_signature::{SignatureError, SignatureRef, write_line};
+use gix_signature::{SignatureRef, write_line};
 use jiff::Timestamp;
 use jiff::tz::TimeZoneDatabase;
 use std::alloc::{AllocError, Global};
@@ -74,20 +74,35 @@ pub(crate) fn answer_to(
     row: &mut Arguments<'_>,
 ) -> Option<Answer> {
     let call = row.text()?;
-    header(alloc, call, row)
+    line(alloc, call, row)
         .or_else(|| dated(alloc, zones, call, row))
         .or_else(|| printed(alloc, zones, call, row))
-        .or_else(|| signature(alloc, call, row))
         .or_else(|| dated_by_git(zones, call, row))
 }
 
-/// What a call for headers answers, or for the instant of a time.
-fn header(alloc: Global, call: &str, row: &mut Arguments<'_>) -> Option<Answer> {
+/// What a call for headers, signature lines and identity lines answers, or for the instant of a time.
+fn line(alloc: Global, call: &str, row: &mut Arguments<'_>) -> Option<Answer> {
     match call {
         "parse_header" => Some(header_time(row.text()?)),
-        "is_canonical_header" => Some(is_canonical_header(alloc, row.text()?)),
+        "is_canonical_header" => Some(is_canonical_header(row.text()?)),
         "header_text" => Some(header_text(alloc, row.time()?)),
         "to_zoned" => Some(converted(row.time()?)),
+        "cut_signature" => Some(cut(alloc, row.text()?)),
+        "signature_time" => Some(signature_time(row.text()?)),
+        "write_signature" => {
+            let (name, mail) = (row.text()?, row.text()?);
+            Some(signature_line(alloc, name, mail, row.time()?))
+        }
+        "ident" => Some(shown_parts(alloc, row.bytes()?)),
+        "ident_label" => Some(shown_label(alloc, row.bytes()?)),
+        "ident_offset" => Some(stored_offset(alloc, row.bytes()?)),
+        "git_time" => Some(shown_time(alloc, row.bytes()?)),
+        "ident_time" => Some(time_of(row.bytes()?)),
+        "fsck_of" => Some(fsck_word(row.bytes()?)),
+        "write_ident" => {
+            let (name, mail) = (row.bytes()?, row.bytes()?);
+            Some(written_line(alloc, name, mail, row.time()?))
+        }
         _ => None,
     }
 }
@@ -175,38 +190,6 @@ fn printed(
     }
 }
 
-/// What a call for signature lines answers.
-fn signature(alloc: Global, call: &str, row: &mut Arguments<'_>) -> Option<Answer> {
-    match call {
-        "cut_signature" => Some(cut(alloc, row.text()?)),
-        "signature_time" => Some(signature_time(row.text()?)),
-        "write_signature" => {
-            let name = row.text()?;
-            let mail = row.text()?;
-            Some(signature_line(alloc, name, mail, row.time()?))
-        }
-        _ => ident(alloc, call, row),
-    }
-}
-
-/// What a call for identity lines answers.
-fn ident(alloc: Global, call: &str, row: &mut Arguments<'_>) -> Option<Answer> {
-    match call {
-        "ident" => Some(shown_parts(alloc, row.bytes()?)),
-        "ident_label" => Some(shown_label(alloc, row.bytes()?)),
-        "ident_offset" => Some(stored_offset(alloc, row.bytes()?)),
-        "git_time" => Some(shown_time(alloc, row.bytes()?)),
-        "ident_time" => Some(time_of(row.bytes()?)),
-        "fsck_of" => Some(fsck_word(row.bytes()?)),
-        "write_ident" => {
-            let name = row.bytes()?;
-            let mail = row.bytes()?;
-            Some(written_line(alloc, name, mail, row.time()?))
-        }
-        _ => None,
-    }
-}
-
 /// The time of a header, where both calls that read one agree.
 fn header_time(text: &str) -> Answer {
     let time = parse_header(text);
@@ -222,16 +205,8 @@ fn header_time(text: &str) -> Answer {
 }
 
 /// Whether a text is that of a time as it is written.
-fn is_canonical_header(alloc: Global, text: &str) -> Answer {
-    let word: Result<String, AllocError> = String::from_str(
-        alloc,
-        if gix_date::is_canonical_header(text) {
-            "yes"
-        } else {
-            "no"
-        },
-    );
-    word.into()
+fn is_canonical_header(text: &str) -> Answer {
+    Answer::of_bool(gix_date::is_canonical_header(text))
 }
 
 /// The text of a time in a header, where the calls that write one agree.
@@ -299,10 +274,8 @@ fn mode_name(alloc: Global, name: &str) -> Answer {
 /// The text of a time in a format. `format_or_unix` has to answer the same, or the seconds where there is none, and
 /// `format_to_buf` the same, or no text where it owes none.
 fn format_text(alloc: Global, format: Format, time: Time) -> Answer {
-    let (text, always) = (
-        time.format(alloc, format),
-        time.format_or_unix(alloc, format),
-    );
+    let text = time.format(alloc, format);
+    let always = time.format_or_unix(alloc, format);
     let seconds = time.format(alloc, Format::Unix);
     let is_same = match (&text, &always, &seconds) {
         (Ok(text), Ok(always), _) => text.as_str() == always.as_str(),
@@ -378,15 +351,7 @@ fn signature_line(alloc: Global, name: &str, mail: &str, time: Time) -> Answer {
             Ok(line) => Answer::Text(line),
             Err(_fault) => Answer::APART,
         },
-        Err(fault) => refused_line(fault, bytes.is_empty()),
-    }
-}
-
-/// The refusal of a line, where nothing was written.
-fn refused_line(fault: SignatureError, is_unwritten: bool) -> Answer {
-    if is_unwritten {
-        fault.into()
-    } else {
-        Answer::APART
+        Err(fault) if bytes.is_empty() => fault.into(),
+        Err(_fault) => Answer::APART,
     }
 }

@@ -31,10 +31,7 @@ fn pushed(alloc: Global, pieces: &[&[u8]]) -> Result<Vec<u8>, AllocError> {
 pub(crate) fn shown_parts(alloc: Global, line: &[u8]) -> Answer {
     match IdentRef::from_bytes(line) {
         Some(IdentRef { name, mail, date }) => {
-            let seconds: &[u8] = match date {
-                Some(date) => date.seconds,
-                None => b"",
-            };
+            let seconds = date.map_or(b"".as_slice(), |date| date.seconds);
             joined(alloc, &[name, b"<", mail, b">", seconds])
         }
         None => NO_IDENTITY,
@@ -44,13 +41,7 @@ pub(crate) fn shown_parts(alloc: Global, line: &[u8]) -> Answer {
 /// The name and the mail that Git shows of a line.
 pub(crate) fn shown_label(alloc: Global, line: &[u8]) -> Answer {
     match IdentRef::from_bytes(line) {
-        Some(
-            IdentRef {
-                name,
-                mail,
-                date: _,
-            },
-        ) => joined(alloc, &[name, b" <", mail, b">"]),
+        Some(ident) => joined(alloc, &[ident.name, b" <", ident.mail, b">"]),
         None => NO_IDENTITY,
     }
 }
@@ -58,20 +49,7 @@ pub(crate) fn shown_label(alloc: Global, line: &[u8]) -> Answer {
 /// The date of a line, or why there is none.
 fn date_of(line: &[u8]) -> Result<DateParts<'_>, Answer> {
     match IdentRef::from_bytes(line) {
-        Some(
-            IdentRef {
-                name: _,
-                mail: _,
-                date: Some(date),
-            },
-        ) => Ok(date),
-        Some(
-            IdentRef {
-                name: _,
-                mail: _,
-                date: None,
-            },
-        ) => Err(NO_DATE),
+        Some(ident) => ident.date.ok_or(NO_DATE),
         None => Err(NO_IDENTITY),
     }
 }

@@ -8,7 +8,7 @@ use gix_date::{
 use gix_signature::GitTime;
 use jiff::Timestamp;
 use jiff::tz::{Offset, TimeZone, TimeZoneDatabase};
-use std::alloc::{AllocError, Global};
+use std::alloc::Global;
 
 /// Moments by their seconds and offset, at which a text that is not relative means the same as at none.
 const MOMENTS: [(i64, i32); 5] = [
@@ -71,7 +71,7 @@ pub(crate) fn ignored_place(zones: &TimeZoneDatabase, moment: &str, text: &[u8])
 /// Whether such a date names its own offset.
 pub(crate) fn names_offset(zones: &TimeZoneDatabase, moment: &str, text: &[u8]) -> Option<Answer> {
     Some(match dated(zones, moment, text)? {
-        Ok(date) => Answer::Word(if date.has_offset { "yes" } else { "no" }),
+        Ok(date) => Answer::of_bool(date.has_offset),
         Err(refusal) => refusal,
     })
 }
@@ -91,16 +91,12 @@ pub(crate) fn shown_date(
     moment: &str,
     time: Time,
 ) -> Option<Answer> {
-    let shown = match moment_of(zones, moment)? {
-        Ok(now) => show_date(time, mode, now?),
-        Err(refusal) => return Some(Answer::Refused(refusal)),
-    };
-    Some(match shown {
-        Ok(text) => {
-            let copy: Result<String, AllocError> = String::from_str(alloc, text.as_str());
-            copy.into()
-        }
-        Err(refusal) => refusal.into(),
+    Some(match moment_of(zones, moment)? {
+        Ok(now) => match show_date(time, mode, now?) {
+            Ok(text) => Answer::copied(alloc, text.as_str()),
+            Err(refusal) => refusal.into(),
+        },
+        Err(refusal) => Answer::Refused(refusal),
     })
 }
 
@@ -116,15 +112,11 @@ pub(crate) fn shown_git_time(
         Ok(now) => now?,
         Err(refusal) => return Some(Answer::Refused(refusal)),
     };
-    Some(
-        match show_git_time(time, mode, now.timestamp(), now.time_zone()) {
-            Ok(text) => {
-                let copy: Result<String, AllocError> = String::from_str(alloc, text.as_str());
-                copy.into()
-            }
-            Err(refusal) => refusal.into(),
-        },
-    )
+    let shown = show_git_time(time, mode, now.timestamp(), now.time_zone());
+    Some(match shown {
+        Ok(text) => Answer::copied(alloc, text.as_str()),
+        Err(refusal) => refusal.into(),
+    })
 }
 
 /// The answer that is the same by each of these rules and the other options.

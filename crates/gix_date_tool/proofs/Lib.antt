@@ -1,10 +1,7 @@
-pub mod Sending
-pub mod Taking
+pub mod Serving
 pub mod Signing
 pub mod Replying
 pub mod CanonicalLines
 pub mod UnchangedLines
-pub mod Reading
-pub mod Reporting
-pub mod RunsOnce
-pub mod UnknownOffsets
+pub mod Fronts
+pub mod Sent

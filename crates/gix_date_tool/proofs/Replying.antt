@@ -1,18 +1,24 @@
 -- The reply to a line, by what `parse` answers.
-use Rattle.std.proofs.Common.{◌≡◌, ◌∙◌, ℕ, List, Bool, true, false, Option, sym, ap, inl, inr}
+use Rattle.std.proofs.Common.{◌≡◌, ◌∙◌, ℕ, List, Bool, true, false, Option, Ok, sym, ap, refl, inl, inr}
 use Rattle.std.specs.Str.{is_utf8}
 use Rattle.jiff.specs.declared.zoned.Zoned.{Zoned}
 use Rattle.gix_date.proofs.Relative.Chains.{one-outcome}
-use Rattle.gix_date.specs.Families.Order.{first_family}
+use Rattle.jiff.specs.Words.{IsOffsetSeconds}
+use Rattle.gix_date.proofs.Header.HeaderTexts.{fitting_has_text}
+use Rattle.gix_date.specs.Families.Answer.{FamilyAnswer}
+use Rattle.gix_date.specs.Families.Order.{first_family, ParseNoAllocOutcome}
+use Rattle.gix_date.specs.declared.time.Time.{Time}
 use Rattle.gix_date_tool.specs.declared.program.arguments.Mode.{Mode}
 use Rattle.gix_date_tool.specs.declared.program.arguments.Mode.TheVariants.{Check, Parse, Sign}
 use Rattle.gix_date_tool.specs.declared.runs.replies.Query.{Query}
 use Rattle.gix_date_tool.specs.declared.runs.replies.Reply.{Reply}
-use Rattle.gix_date_tool.specs.Replies.{IsReply, IsReplyTo, IsTextReply, IsSignReply, parse_reply, RepliesAreUnique}
-use Rattle.gix_date_tool.specs.declared.runs.replies.Reply.TheVariants.{Signed}
+use Rattle.gix_date_tool.specs.Replies.{IsParseReply, IsReply, IsReplyTo, IsTextReply, IsSignReply, parse_reply, RepliesAreUnique}
+use Rattle.gix_date_tool.specs.declared.runs.replies.Reply.TheVariants.{Parsed, Signed}
+use Rattle.gix_date_tool.specs.Signed.{IsUnsigned}
 use Rattle.gix_date_tool.proofs.Signing.{signed-once}
 
 sign-once : (text : List ℕ) (a b : Reply) → IsSignReply text a → IsSignReply text b → a ≡ b
+unfolding IsSignReply IsUnsigned
 sign-once text a b (inl h) (inl g) = h.2 ∙ ap Signed (signed-once text h.0 g.0 h.1 g.1) ∙ sym g.2
 sign-once text a b (inl h) (inr g) = absurd (g.0 h.0 h.1)
 sign-once text a b (inr h) (inl g) = absurd (h.0 g.0 g.1)
@@ -27,6 +33,11 @@ line-once : (is_text : Bool) (query : Query) (line : List ℕ) (a b : Reply) →
 line-once true query line a b h g = text-once query.mode query.now line a b h g
 line-once false query line a b h g = h ∙ sym g
 
-pub reply-once : RepliesAreUnique
-unfolding IsReply
-reply-once query line a b h g = line-once (is_utf8 line) query line a b h g
+pub reply_once : RepliesAreUnique
+unfolding IsReply RepliesAreUnique
+reply_once query line a b h g = line-once (is_utf8 line) query line a b h g
+
+-- the reply of a time
+pub parsed_is : (family : Option FamilyAnswer) (now : Option Zoned) (t : Time) → ParseNoAllocOutcome family now (Ok t) → IsOffsetSeconds t.offset
+    → IsParseReply family now (Parsed t)
+parsed_is family now t is fits = (Ok t, is, refl, fitting_has_text t fits)

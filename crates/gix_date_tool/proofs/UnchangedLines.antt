@@ -29,6 +29,7 @@ line-in (Signed line) = line
 line-in _ = []
 
 canonical-of : (line : List ℕ) → is_utf8 line ≡ true → IsSignReply line (Signed line) → IsCanonicalLine line
+unfolding IsSignReply
 canonical-of line u (inl h) =
     let same : line ≡ h.0 = ap line-in h.2 in
     let s : IsSigned line line = subst (IsSigned line) (sym same) h.1 in
@@ -45,6 +46,6 @@ by-text : (query : Query) (line : List ℕ) (is_text : Bool) → query.mode ≡ 
 by-text query line false m u h = let clash : Signed line ≡ NotText = h in absurd cc
 by-text query line true m u h = canonical-of line u (rw m at h)
 
-pub unchanged-lines : (line : List ℕ) → UnchangedLines line
-unfolding IsReply
-unchanged-lines line query m = grind (arith, by-text, signed-of)
+pub unchanged_lines : (line : List ℕ) → UnchangedLines line
+unfolding IsReply IsSignReply UnchangedLines
+unchanged_lines line query m = grind (arith, by-text, signed-of)

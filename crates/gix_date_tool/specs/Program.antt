@@ -6,22 +6,18 @@ use Rattle.gix_date.specs.declared.time.Time.{Time}
 use Rattle.gix_date_tool.specs.declared.program.arguments.Mode.{Mode}
 use Rattle.gix_date_tool.specs.declared.program.arguments.WrongWords.{WrongWords}
 use Rattle.gix_date_tool.specs.declared.program.arguments.WrongWords.TheVariants.{NotText}
-use Rattle.gix_date_tool.specs.declared.error.ToolError.TheVariants as errors
+use Rattle.streams.specs.declared.error.ToolError.TheVariants as errors
 use Rattle.gix_date_tool.specs.declared.program.outcome.Outcome.{Outcome}
 use Rattle.gix_date_tool.specs.declared.program.outcome.Outcome.TheVariants.{Replied, Fault, Printed, Shown}
 use Rattle.gix_date_tool.specs.declared.program.help.TheConstants.{HELP, VERSION}
-use Rattle.gix_date_tool.specs.declared.program.Status.{Status}
-use Rattle.gix_date_tool.specs.declared.program.Status.TheVariants.{Success, Failure, Usage}
+use Rattle.streams.specs.Changes.{Change}
+use Rattle.streams.specs.Messages.{Reports}
+use Rattle.streams.specs.declared.program.Status.{Status}
+use Rattle.streams.specs.declared.program.Status.TheVariants.{Success, Failure, Usage}
 use Rattle.gix_date_tool.specs.declared.program.TheConstants.{USAGE}
 use Rattle.gix_date_tool.specs.Command.{asked}
-use Rattle.gix_date_tool.specs.Messages.{message_of, Reports}
-use Rattle.gix_date_tool.specs.Run.{Change, Runs}
-
--- the exit status of the process
-abbrev pub code_of : Status → ℕ
-code_of Success = 0
-code_of Failure = 1
-code_of Usage = 2
+use Rattle.gix_date_tool.specs.Messages.{message_of}
+use Rattle.gix_date_tool.specs.Run.{Runs}
 
 -- the status that an end has
 abbrev pub status_of : Outcome → Status

@@ -1,15 +1,15 @@
 -- What is replied to a line.
-use Rattle.std.specs.Prelude.{◌≡◌, ◌↔◌, ◌⊎◌, ℕ, Bool, true, false, List, [], ◌∷◌, ◌++◌, if◌then◌else◌, Option, IsSome, Result, Ok, Err, codes, pos}
+use Rattle.std.specs.Prelude.{◌≡◌, ◌↔◌, ◌⊎◌, ℕ, Bool, true, false, List, [], ◌∷◌, ◌++◌, Option, IsSome, Result, Ok, Err, codes, pos}
 use Rattle.std.specs.Str.Parse.{digits_value}
-use Rattle.std.specs.Option.{option_map_or}
 use Rattle.std.specs.List.{flat_map}
 use Rattle.std.specs.Str.{is_utf8}
 use Rattle.gix_date.specs.declared.time.Time.{Time}
-use Rattle.gix_date.specs.Header.Canonical.{is_canonical_header}
+use Rattle.gix_date.specs.Header.Canonical.{header_kind, is_canonical_header}
+use Rattle.gix_date.specs.declared.parsing.headers.HeaderKind.{HeaderKind}
+use Rattle.gix_date.specs.declared.parsing.headers.HeaderKind.TheVariants as kinds
 use Rattle.gix_date.specs.Text.Characters.{space}
 use Rattle.gix_date.specs.Text.Numbers.{decimal_text}
 use Rattle.gix_date.specs.Header.Text.{header_text, written_text}
-use Rattle.gix_date.specs.Header.Reading.{header_time}
 use Rattle.jiff.specs.declared.zoned.Zoned.{Zoned}
 use Rattle.gix_date.specs.Families.Answer.{FamilyAnswer}
 use Rattle.gix_date.specs.Families.Order.{first_family, ParseNoAllocOutcome}
@@ -20,12 +20,18 @@ use Rattle.gix_date_tool.specs.declared.program.arguments.Mode.TheVariants.{Chec
 use Rattle.gix_date_tool.specs.declared.runs.replies.Query.{Query}
 use Rattle.gix_date_tool.specs.declared.runs.replies.Reply.{Reply}
 use Rattle.gix_date_tool.specs.declared.runs.replies.Reply.TheVariants.{NotText, NoTime, Canonical, Read, Parsed, UnknownFormat, DateConversion, MissingMoment, OutOfRange, Signed, NoSignature}
-use Rattle.gix_date_tool.specs.Lines.{with_newline}
+use Rattle.streams.specs.Lines.{with_newline}
 use Rattle.gix_date_tool.specs.Signed.{IsSigned, IsUnsigned, IsCanonicalLine}
+
+-- the reply to a text by what it is as a header
+abbrev pub kind_reply : HeaderKind → Reply
+kind_reply kinds.Canonical = Canonical
+kind_reply (kinds.Lenient time) = Read time
+kind_reply kinds.NoHeader = NoTime
 
 -- the reply of Check to a text: a canonical header, or else what it is read as
 abbrev pub check_reply : List ℕ → Reply
-check_reply text = if is_canonical_header text then Canonical else option_map_or Read (header_time text) NoTime
+check_reply text = kind_reply (header_kind text)
 
 -- the reply of Check to a header of these seconds and the offset `-0000`, which is read as 0
 abbrev pub unknown_reply : List ℕ → Reply
@@ -52,7 +58,7 @@ IsParseReply answer now reply =
     × IsWritable reply
 
 -- the reply of Sign to a text: the line that is written of its parts, or that there is none
-abbrev pub IsSignReply : List ℕ → Reply → Type 0
+unfoldable pub IsSignReply : List ℕ → Reply → Type 0
 IsSignReply text reply =
     ((line : List ℕ) × IsSigned text line × (reply ≡ Signed line)) ⊎ (IsUnsigned text × (reply ≡ NoSignature))
 
@@ -106,16 +112,16 @@ pub record Replied (Is : List ℕ → Type 0) (query : Query) (lines : List (Lis
   pub text : Is (reply_lines replies)
 
 -- each line has one reply at most
-abbrev pub RepliesAreUnique : Type 0
+unfoldable pub RepliesAreUnique : Type 0
 RepliesAreUnique =
     (query : Query) (line : List ℕ) (reply other : Reply)
     → IsReply query line reply → IsReply query line other → reply ≡ other
 
 -- in Check a line is replied to by `canonical` exactly where it is a canonical header
-abbrev pub CanonicalLines : List ℕ → Type 0
+unfoldable pub CanonicalLines : List ℕ → Type 0
 CanonicalLines line =
     (query : Query) → query.mode ≡ Check → IsReply query line Canonical ↔ (is_canonical_header line ≡ true)
 
 -- in Sign a line is replied to by itself exactly where it is a canonical signature line
-abbrev pub UnchangedLines : List ℕ → Type 0
+unfoldable pub UnchangedLines : List ℕ → Type 0
 UnchangedLines line = (query : Query) → query.mode ≡ Sign → IsReply query line (Signed line) ↔ IsCanonicalLine line

@@ -16,7 +16,7 @@ pub record IsSigned (text line : List ℕ) : Type 0 where
   pub due : line_due parts.name parts.mail time ≡ Ok line
 
 -- no line is due: the text has no cut, no time is read from the last part, or that time has no header text
-abbrev pub IsUnsigned : List ℕ → Type 0
+unfoldable pub IsUnsigned : List ℕ → Type 0
 IsUnsigned text = (line : List ℕ) → ¬ (IsSigned text line)
 
 -- a line as Git writes it: it is text, it has a cut, and its time is the header text of a time

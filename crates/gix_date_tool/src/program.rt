@@ -1,50 +1,22 @@
 //! What the program does with a command line.
 ghost use Rattle.std.specs.Prelude.{◌≡◌, map, string_bytes};
-ghost use Rattle.gix_date_tool.specs.Run.{change};
-ghost use Rattle.gix_date_tool.specs.Command.{asked};
-ghost use Rattle.gix_date_tool.specs.Program.{code_of, status_of, EndsInUsage, EndsCommand, Ends, Prints, ShowsUsage, Executes};
+ghost use Rattle.gix_date_tool.specs as Spec;
+ghost use Rattle.streams.specs as Streams;
 
 pub(crate) mod arguments;
 mod help;
-pub(crate) mod kinds;
-pub(crate) mod messages;
 mod outcome;
 
-use crate::error::ToolError;
 use crate::program::arguments::{Request, WrongWords, read_words};
 use crate::program::help::text_asked;
-use crate::program::messages::report;
 use crate::program::outcome::Outcome;
 use crate::runs::run;
 use gix_date::device::{Sink, Source, put_all};
 use std::alloc::Global;
+use streams::{Status, ToolError, print, tell_fault, write_message};
 
 /// How the program is called.
 pub(crate) const USAGE: &[u8] = b"usage: gix_date_tool MODE [NOW]\n";
-
-/// How the program ends.
-#[derive(Debug, Clone, Copy, PartialEq, Eq)]
-pub enum Status {
-    /// The input was read to its end, and the replies to all its lines were written. Or the help or the version was written.
-    Success,
-    /// A fault, or out of memory.
-    Failure,
-    /// The command line is another than the program has, and the usage line was written.
-    Usage,
-}
-
-impl Status {
-    /// The exit status of the process: 0, 1 or 2.
-    pub fn code(self) -> u8
-        ensures { result ≡ code_of self }
-    {
-        match self {
-            Status::Success => 0,
-            Status::Failure => 1,
-            Status::Usage => 2,
-        }
-    }
-}
 
 /// Does what the words of a command line, without the program's name, ask for: runs over the reader's lines, or writes
 /// the usage line if the words are invalid. If the first word is `--help` or `-h`, it writes the help instead, and if it is
@@ -61,9 +33,9 @@ pub fn execute<R: Source, W: Sink, M: Sink>(
     writer: &mut W,
     messages: &mut M,
 ) -> Status
-    ensures { Executes (map string_bytes words.now) (change (R.known reader.old) (R.known reader.new))
-        (change (W.known writer.old) (W.known writer.new))
-        (change (M.known messages.old) (M.known messages.new)) result }
+    ensures { Spec.Executes (map string_bytes words.now) (Streams.change (R.known reader.old) (R.known reader.new))
+        (Streams.change (W.known writer.old) (W.known writer.new))
+        (Streams.change (M.known messages.old) (M.known messages.new)) result }
 {
     let outcome = dispatch(alloc, words, reader, writer);
     report(&outcome, messages);
@@ -73,8 +45,8 @@ pub fn execute<R: Source, W: Sink, M: Sink>(
 /// Writes the usage line for a command line with a word that is not UTF-8, and puts that into the messages.
 /// [`Status::Failure`] if the writer refuses; its fault then goes into the messages.
 pub fn show_usage<W: Sink, M: Sink>(writer: &mut W, messages: &mut M) -> Status
-    ensures { ShowsUsage (change (W.known writer.old) (W.known writer.new))
-        (change (M.known messages.old) (M.known messages.new)) result }
+    ensures { Spec.ShowsUsage (Streams.change (W.known writer.old) (W.known writer.new))
+        (Streams.change (M.known messages.old) (M.known messages.new)) result }
 {
     let outcome = usage_outcome(writer, WrongWords::NotText);
     report(&outcome, messages);
@@ -88,22 +60,22 @@ fn dispatch<R: Source, W: Sink>(
     reader: &mut R,
     writer: &mut W,
 ) -> Outcome
-    ensures { Ends (map string_bytes words.now) (change (R.known reader.old) (R.known reader.new))
-        (change (W.known writer.old) (W.known writer.new)) result }
+    ensures { Spec.Ends (map string_bytes words.now) (Streams.change (R.known reader.old) (R.known reader.new))
+        (Streams.change (W.known writer.old) (W.known writer.new)) result }
 {
     match text_asked(words) {
-        Some(text) => print(text, writer),
+        Some(text) => show(text, writer),
         None => reply(alloc, words, reader, writer),
     }
 }
 
 /// Writes a text.
-fn print<W: Sink>(text: &str, writer: &mut W) -> Outcome
-    ensures { Prints text.now (change (W.known writer.old) (W.known writer.new)) result }
+fn show<W: Sink>(text: &str, writer: &mut W) -> Outcome
+    ensures { Spec.Prints text.now (Streams.change (W.known writer.old) (W.known writer.new)) result }
 {
-    match put_all(writer, text.as_bytes()) {
+    match print(text, writer) {
         Ok(()) => Outcome::Printed,
-        Err(kind) => Outcome::Fault(ToolError::Write(kind)),
+        Err(fault) => Outcome::Fault(fault),
     }
 }
 
@@ -114,8 +86,8 @@ fn reply<R: Source, W: Sink>(
     reader: &mut R,
     writer: &mut W,
 ) -> Outcome
-    ensures { EndsCommand (asked (map string_bytes words.now)) (change (R.known reader.old) (R.known reader.new))
-        (change (W.known writer.old) (W.known writer.new)) result }
+    ensures { Spec.EndsCommand (Spec.asked (map string_bytes words.now)) (Streams.change (R.known reader.old) (R.known reader.new))
+        (Streams.change (W.known writer.old) (W.known writer.new)) result }
 {
     match read_words(words) {
         Request::Run(mode, now) => match run(alloc, mode, now, reader, writer) {
@@ -128,7 +100,7 @@ fn reply<R: Source, W: Sink>(
 
 /// Writes the usage line.
 fn usage_outcome<W: Sink>(writer: &mut W, why: WrongWords) -> Outcome
-    ensures { EndsInUsage why (change (W.known writer.old) (W.known writer.new)) result }
+    ensures { Spec.EndsInUsage why (Streams.change (W.known writer.old) (W.known writer.new)) result }
 {
     match put_all(writer, USAGE) {
         Ok(()) => Outcome::Shown(why),
@@ -136,9 +108,21 @@ fn usage_outcome<W: Sink>(writer: &mut W, why: WrongWords) -> Outcome
     }
 }
 
+/// Says in one line why the program ends so, where there is something to say.
+fn report<M: Sink>(outcome: &Outcome, messages: &mut M)
+    ensures { Streams.Reports (Streams.change (M.known messages.old) (M.known messages.new)) (Spec.message_of outcome.now) }
+{
+    match outcome {
+        Outcome::Fault(fault) => tell_fault("gix_date_tool", fault, messages),
+        Outcome::Shown(why) => write_message(&["gix_date_tool", ": ", why.text(), "\n"], messages),
+        Outcome::Replied => {}
+        Outcome::Printed => {}
+    }
+}
+
 /// The status that an end has.
 fn status_of(outcome: &Outcome) -> Status
-    ensures { result ≡ status_of outcome.now }
+    ensures { result ≡ Spec.status_of outcome.now }
 {
     match outcome {
         Outcome::Replied => Status::Success,

@@ -1,23 +1,21 @@
 //! A run over the lines of a stream, each replied to in turn.
-ghost use Rattle.std.specs.Prelude.{◌≡◌};
 ghost use Rattle.std.specs.Option.{ForSome};
-ghost use Rattle.gix_date.specs.Fields.Zoned.{IsConvertible};
-ghost use Rattle.gix_date_tool.specs.Run.{Runs, change, IsMomentOf, is_unwritten};
+ghost use Rattle.gix_date_tool.specs as Spec;
+ghost use Rattle.gix_date.specs as GixDate;
+ghost use Rattle.streams.specs as Streams;
 
-pub(crate) mod at_once;
-pub(crate) mod lines;
-pub(crate) mod outbox;
-mod progress;
 pub(crate) mod replies;
+mod serving;
 mod signed;
 
-use crate::error::ToolError;
 use crate::program::arguments::Mode;
-use crate::runs::progress::Progress;
 use crate::runs::replies::Query;
-use gix_date::device::{Sink, Source};
+use crate::runs::serving::Replying;
+use gix_date::device::{Device, Sink, Source};
 use gix_date::{Time, Zoned};
 use std::alloc::Global;
+use std::io;
+use streams::{MAX_LINES, Outbox, ToolError, serve_lines};
 
 /// Replies to each line of a reader by a line of output, and answers the number of lines.
 ///
@@ -32,6 +30,7 @@ use std::alloc::Global;
 /// where memory for a line that grows is refused, and [`ToolError::Read`] carries the reader's fault: then the
 /// replies to all lines before were written, and nothing more. [`ToolError::Write`] carries the writer's fault, and
 /// then a proper prefix of the replies that were due was written.
+#[tactic(auto, using(crate::proofs::Serving::run_ended, crate::proofs::Serving::run_stopped))]
 pub fn run<R: Source, W: Sink>(
     alloc: Global,
     mode: Mode,
@@ -39,39 +38,38 @@ pub fn run<R: Source, W: Sink>(
     reader: &mut R,
     writer: &mut W,
 ) -> Result<u64, ToolError>
-    requires { ForSome now IsConvertible }
-    ensures { Runs mode now (change (R.known reader.old) (R.known reader.new))
-        (change (W.known writer.old) (W.known writer.new)) result }
+    requires { ForSome now GixDate.IsConvertible }
+    ensures { Spec.Runs mode now (Streams.change (R.known reader.old) (R.known reader.new))
+        (Streams.change (W.known writer.old) (W.known writer.new)) result }
 {
-    let query = Query {
-        mode,
-        now: moment_of(now),
+    let mut replying = Replying {
+        query: Query {
+            mode,
+            now: moment_of(now),
+        },
+        outbox: Outbox::new(),
     };
-    let mut progress = Progress::new(alloc, query);
-    let outcome = progress.reply_to_all(reader, writer);
-    if is_unwritten(&outcome) {
-        return outcome;
-    }
-    match progress.send(writer) {
-        Ok(()) => outcome,
-        Err(kind) => Err(ToolError::Write(kind)),
+    let mut silence = Device::new(io::sink());
+    match serve_lines(
+        alloc,
+        MAX_LINES,
+        &mut replying,
+        reader,
+        writer,
+        &mut silence,
+    ) {
+        Ok(count) => Ok(count),
+        Err(stop) => Err(stop.fault()),
     }
 }
 
 /// The moment of a time, in the zone that always has its offset.
 fn moment_of(now: Option<Time>) -> Option<Zoned<'static>>
-    requires { ForSome now IsConvertible }
-    ensures { IsMomentOf now result }
+    requires { ForSome now GixDate.IsConvertible }
+    ensures { Spec.IsMomentOf now result }
 {
     match now {
         Some(time) => Some(time.to_zoned().unwrap()),
         None => None,
     }
-}
-
-/// Whether the writer refused.
-fn is_unwritten(outcome: &Result<u64, ToolError>) -> bool
-    ensures { result ≡ is_unwritten outcome.now }
-{
-    matches!(outcome, Err(ToolError::Write(_)))
 }

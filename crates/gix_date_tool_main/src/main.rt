@@ -2,9 +2,10 @@
 #![tactic(auto)]
 
 use gix_date::device::Device;
-use gix_date_tool::{Status, execute, show_usage, words};
+use gix_date_tool::{execute, show_usage};
 use std::alloc::AllocError;
 use std::process::ExitCode;
+use streams::{Status, words};
 
 fn main(rt: HostRuntime) -> ExitCode {
     let mut reader = Device::new(rt.stdin());

@@ -3,7 +3,6 @@ pub mod Pieces
 pub mod Written
 pub mod SignatureRows
 pub mod Texts
-pub mod Kept
 pub mod IdentRows
 pub mod Shown
 pub mod DateTexts

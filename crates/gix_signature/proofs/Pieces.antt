@@ -5,7 +5,7 @@ use Rattle.std.proofs.lemmas.List.{take-append-le}
 use Rattle.std.specs.Prelude.{Result, Ok, Err}
 use Rattle.std.specs.declared.io.ErrorKind.{ErrorKind}
 use Rattle.gix_date.specs.Devices.StreamState.{StreamState, Takes, TakesProperPrefix}
-use Rattle.gix_date.proofs.Text.KnownBytes.{Appends-append}
+use Rattle.gix_date.proofs.Text.KnownBytes.{Appends-append, Cut-after}
 use Rattle.gix_signature.specs.Writing.{Puts}
 
 -- one text, and then the next
@@ -15,12 +15,6 @@ Takes-then old mid new xs ys h k = Appends-append old.bytes mid.bytes new.bytes 
 -- a proper prefix of a text is one of a longer text too
 pub Cut-more : (old new : StreamState) (xs ys : List ℕ) → TakesProperPrefix old new xs → TakesProperPrefix old new (xs ++ ys)
 Cut-more old new xs ys h = grind (arith, length-append, take-append-le)
-
--- a text, and then a proper prefix of the next
-pub Cut-after : (old mid new : StreamState) (xs ys : List ℕ) → Takes old mid xs → TakesProperPrefix mid new ys → TakesProperPrefix old new (xs ++ ys)
-Cut-after old mid new xs ys h k =
-    let within = k.1 in
-    (length xs + k.0, omega (arith, length-append xs ys), subst (Takes old new) (sym (take-append-add xs ys k.0)) (Takes-then old mid new xs (take k.0 ys) h k.2))
 
 -- a refusal within a text is one within a longer text too
 pub Puts-more : (old new : StreamState) (xs ys : List ℕ) (kind : ErrorKind) → Puts old new xs (Err kind) → Puts old new (xs ++ ys) (Err kind)

@@ -1,3 +1,23 @@
+-- The words of definitions. Made by scripts/words.
+pub mod Ident
 pub mod Signature
 pub mod Writing
-pub mod Ident
+unfoldable pub use Ident.Bytes.{tab, vertical_tab, form_feed, carriage_return, quote, apostrophe, semicolon, backslash, is_opening}
+unfoldable pub use Ident.Bytes.{is_closing, is_bracket, is_newline, is_nul, ends_line, is_blank, is_white, is_minus, is_sign}
+unfoldable pub use Ident.Bytes.{is_control_or_space, is_crud_mark, is_crud, is_kept}
+unfoldable pub use Ident.Due.{trimmed, cleaned, part_put, parts_put, cleaned_parts, dated_line, ident_due, WritesIdent}
+unfoldable pub use Ident.Fsck.{from_bracket, from_next_bracket, after_mail, fsck_date, is_zero, number_is, after_number}
+unfoldable pub use Ident.Fsck.{is_fsck_zone, has_date_fault, has_fault, from_fault, fsck_ids, first_fault, fault_at, fsck_of}
+unfoldable pub use Ident.Laws.{CutIsShown, minutes_kept, in_minutes, WrittenPasses, CanonicalPasses}
+pub use Ident.Laws.{PassesAs}
+unfoldable pub use Ident.Parts.{date_text_of, ident_text_of, has_identity, shown_name, shown_mail, date_text, after_seconds}
+unfoldable pub use Ident.Parts.{begins_with_offset, offset_at_front, date_parts, line_parts, ident_parts, line_places, ident_places}
+pub use Ident.Parts.{DateText, IdentText}
+unfoldable pub use Ident.Texts.{whole_line, from_first, without_front, without_end, begins_with, ends_with}
+unfoldable pub use Ident.Times.{too_many_seconds, least_offset, greatest_offset, kept_offset, seconds_shown, git_time_at, git_time}
+unfoldable pub use Ident.Times.{widest_minutes, minutes_told, with_sign_of, time_of_git, numbers_of_64_bits, held_number, c_value}
+unfoldable pub use Ident.Times.{without_sign, number_at_front, c_number}
+unfoldable pub use Signature.{opening, closing, newline, nul, is_allowed, is_part, parts_of, line_of, are_parts, HasNoCut, OneCut}
+pub use Signature.{Parts, IsCut}
+unfoldable pub use Writing.{Puts, parts_due, line_due, WritesLine}
+pub use Writing.{IsWritten}

@@ -1,11 +1,8 @@
 //! What `git fsck` says of an identity line.
 ghost use Rattle.std.specs.Prelude.{◌≡◌, ◌≤◌, nat_lt, not, length};
 ghost use Rattle.std.specs.List.{find, list_any};
-ghost use Rattle.gix_date.specs.Text.Characters.{is_space};
-ghost use Rattle.gix_signature.specs.Ident.Bytes.{is_bracket};
-ghost use Rattle.gix_signature.specs.Ident.Texts.{begins_with, ends_with};
-ghost use Rattle.gix_signature.specs.Ident.Times.{too_many_seconds};
-ghost use Rattle.gix_signature.specs.Ident.Fsck.{fsck_of, fsck_ids, first_fault, has_fault, has_date_fault, from_fault, from_bracket, from_next_bracket, after_mail, fsck_date, number_is, after_number, is_fsck_zone};
+ghost use Rattle.gix_signature.specs as Spec;
+ghost use Rattle.gix_date.specs as GixDate;
 
 use crate::ident::bytes::{
     after_first, after_one, are_digits, begins_with, begins_with_sign, bracket_place, has_nul,
@@ -54,9 +51,9 @@ pub struct FsckFault {
 ///
 /// The line ends before the first line feed, or is all. Git reads a number also in the next line where this one ends
 /// after `> `; here that is [`FsckId::BadDate`]. Takes no memory.
-#[tactic(auto, unfolding(crate::specs::Ident::Fsck::fsck_of))]
+#[tactic(auto, unfolding(crate::specs::fsck_of))]
 pub fn fsck_of(text: &[u8]) -> Option<FsckFault>
-    ensures { result ≡ fsck_of text.now }
+    ensures { result ≡ Spec.fsck_of text.now }
 {
     let line = &text[..place_of(text, b'\n')];
     let id = first_fault(line)?;
@@ -82,28 +79,28 @@ const FSCK_IDS: [FsckId; 11] = [
 ];
 
 fn fsck_ids() -> &'static [FsckId]
-    ensures { result.now ≡ fsck_ids }
+    ensures { result.now ≡ Spec.fsck_ids }
 {
     &FSCK_IDS
 }
 
-#[tactic(auto, unfolding(crate::specs::Ident::Fsck::first_fault))]
+#[tactic(auto, unfolding(crate::specs::first_fault))]
 fn first_fault(line: &[u8]) -> Option<FsckId>
-    ensures { result ≡ first_fault line.now }
+    ensures { result ≡ Spec.first_fault line.now }
 {
     fault_in(line, fsck_ids())
 }
 
 /// The first of these faults that a line has.
 fn fault_in(line: &[u8], ids: &[FsckId]) -> Option<FsckId>
-    ensures { result ≡ find (has_fault line.now) ids.now }
+    ensures { result ≡ find (Spec.has_fault line.now) ids.now }
 {
     ids.iter().copied().find(|id| has_fault(line, *id))
 }
 
 /// Whether a line has a fault, if it has none of those before it.
 fn has_fault(line: &[u8], id: FsckId) -> bool
-    ensures { result ≡ has_fault line.now id }
+    ensures { result ≡ Spec.has_fault line.now id }
 {
     match id {
         FsckId::NulInHeader => has_nul(line),
@@ -119,7 +116,7 @@ fn has_fault(line: &[u8], id: FsckId) -> bool
 
 /// Whether what stands after the mail and a space has a fault.
 fn has_date_fault(date: &[u8], id: FsckId) -> bool
-    ensures { result ≡ has_date_fault date.now id }
+    ensures { result ≡ Spec.has_date_fault date.now id }
 {
     match id {
         FsckId::ZeroPaddedDate => begins_with(date, b'0') && !begins_with(after_one(date), b' '),
@@ -132,27 +129,21 @@ fn has_date_fault(date: &[u8], id: FsckId) -> bool
 
 /// Whether a number stands there that is 2^63 or more.
 fn is_too_large(date: &[u8]) -> bool
-    ensures { result ≡ number_is (λ n rest. not (nat_lt n too_many_seconds)) date.now }
+    ensures { result ≡ Spec.number_is (λ n rest. not (nat_lt n Spec.too_many_seconds)) date.now }
 {
-    match c_number(date) {
-        Some((n, _)) => n >= TOO_MANY_SECONDS,
-        None => false,
-    }
+    c_number(date).is_some_and(|(n, _)| n >= TOO_MANY_SECONDS)
 }
 
 /// Whether a number and then a space stand there.
 fn is_before_space(date: &[u8]) -> bool
-    ensures { result ≡ number_is (λ n rest. begins_with is_space rest) date.now }
+    ensures { result ≡ Spec.number_is (λ n rest. Spec.begins_with GixDate.is_space rest) date.now }
 {
-    match c_number(date) {
-        Some((_, rest)) => begins_with(rest, b' '),
-        None => false,
-    }
+    c_number(date).is_some_and(|(_, rest)| begins_with(rest, b' '))
 }
 
 /// What stands after a number and one byte more.
 fn after_number(date: &[u8]) -> &[u8]
-    ensures value { result.now ≡ after_number date.now }
+    ensures value { result.now ≡ Spec.after_number date.now }
     ensures within { length result.now ≤ length date.now }
 {
     match c_number(date) {
@@ -163,7 +154,7 @@ fn after_number(date: &[u8]) -> &[u8]
 
 /// Whether a text is a sign and four digits.
 fn is_fsck_zone(text: &[u8]) -> bool
-    ensures { result ≡ is_fsck_zone text.now }
+    ensures { result ≡ Spec.is_fsck_zone text.now }
 {
     begins_with_sign(text) && text.len() == 5 && are_digits(after_one(text))
 }
@@ -171,21 +162,21 @@ fn is_fsck_zone(text: &[u8]) -> bool
 /// Whether a line has a bracket.
 #[tactic(auto, using(crate::proofs::Texts::place_within))]
 fn has_bracket(line: &[u8]) -> bool
-    ensures { result ≡ list_any is_bracket line.now }
+    ensures { result ≡ list_any Spec.is_bracket line.now }
 {
     bracket_place(line) < line.len()
 }
 
 /// Whether a text ends with a space.
 fn ends_with_space(text: &[u8]) -> bool
-    ensures { result ≡ ends_with is_space text.now }
+    ensures { result ≡ Spec.ends_with GixDate.is_space text.now }
 {
     0 < last_spaces_len(text)
 }
 
 /// What stands from the place of a fault on.
 fn from_fault(line: &[u8], id: FsckId) -> &[u8]
-    ensures value { result.now ≡ from_fault line.now id }
+    ensures value { result.now ≡ Spec.from_fault line.now id }
     ensures within { length result.now ≤ length line.now }
 {
     match id {
@@ -196,16 +187,14 @@ fn from_fault(line: &[u8], id: FsckId) -> &[u8]
         FsckId::MissingSpaceBeforeEmail => from_bracket(line),
         FsckId::BadEmail => from_next_bracket(line),
         FsckId::MissingSpaceBeforeDate => after_mail(line),
-        FsckId::ZeroPaddedDate => fsck_date(line),
-        FsckId::BadDateOverflow => fsck_date(line),
-        FsckId::BadDate => fsck_date(line),
+        FsckId::ZeroPaddedDate | FsckId::BadDateOverflow | FsckId::BadDate => fsck_date(line),
         FsckId::BadTimezone => after_number(fsck_date(line)),
     }
 }
 
 /// What stands from the first bracket on.
 fn from_bracket(line: &[u8]) -> &[u8]
-    ensures value { result.now ≡ from_bracket line.now }
+    ensures value { result.now ≡ Spec.from_bracket line.now }
     ensures within { length result.now ≤ length line.now }
 {
     &line[bracket_place(line)..]
@@ -213,7 +202,7 @@ fn from_bracket(line: &[u8]) -> &[u8]
 
 /// What stands from the next bracket after the first `<` on.
 fn from_next_bracket(line: &[u8]) -> &[u8]
-    ensures value { result.now ≡ from_next_bracket line.now }
+    ensures value { result.now ≡ Spec.from_next_bracket line.now }
     ensures within { length result.now ≤ length line.now }
 {
     from_bracket(after_first(line, b'<'))
@@ -221,7 +210,7 @@ fn from_next_bracket(line: &[u8]) -> &[u8]
 
 /// What stands after that bracket.
 fn after_mail(line: &[u8]) -> &[u8]
-    ensures value { result.now ≡ after_mail line.now }
+    ensures value { result.now ≡ Spec.after_mail line.now }
     ensures within { length result.now ≤ length line.now }
 {
     after_one(from_next_bracket(line))
@@ -229,7 +218,7 @@ fn after_mail(line: &[u8]) -> &[u8]
 
 /// What stands after that, without one byte.
 fn fsck_date(line: &[u8]) -> &[u8]
-    ensures value { result.now ≡ fsck_date line.now }
+    ensures value { result.now ≡ Spec.fsck_date line.now }
     ensures within { length result.now ≤ length line.now }
 {
     after_one(after_mail(line))

@@ -1,8 +1,6 @@
 //! Identity lines of commits and tags, in the parts that Git shows.
 ghost use Rattle.std.specs.Prelude.{◌≡◌, option_map};
-ghost use Rattle.gix_signature.specs.Ident.Bytes.{is_blank};
-ghost use Rattle.gix_signature.specs.Ident.Texts.{without_end, without_front};
-ghost use Rattle.gix_signature.specs.Ident.Parts.{ident_parts, ident_places, line_parts, ident_text_of, date_text, date_parts, date_text_of, after_seconds, begins_with_offset};
+ghost use Rattle.gix_signature.specs as Spec;
 
 pub(crate) mod bytes;
 pub mod time;
@@ -38,7 +36,7 @@ pub struct IdentPlaces {
 impl IdentPlaces {
     /// Where the parts stand that [`IdentRef::from_bytes`] gives of a text: those that it gives. Takes no memory.
     pub fn of(text: &[u8]) -> IdentPlaces
-        ensures { result ≡ ident_places text.now }
+        ensures { result ≡ Spec.ident_places text.now }
     {
         let line = &text[..line_len(text)];
         let date = date_text(line);
@@ -65,15 +63,15 @@ impl<'a> IdentRef<'a> {
     /// `None` where Git finds no identity: no `<`, or no `>` after the first `<`. Bytes from 128 mean nothing, in UTF-8 or
     /// not. A blank is a space, tab, line feed or carriage return. Takes no memory.
     pub fn from_bytes(text: &'a [u8]) -> Option<IdentRef<'a>>
-        ensures { option_map ident_text_of result ≡ ident_parts text.now }
+        ensures { option_map Spec.ident_text_of result ≡ Spec.ident_parts text.now }
     {
         IdentRef::of_line(&text[..line_len(text)])
     }
 
     /// The parts of a whole line.
-    #[tactic(auto, unfolding(crate::specs::Ident::Parts::line_parts))]
+    #[tactic(auto, unfolding(crate::specs::line_parts))]
     fn of_line(line: &'a [u8]) -> Option<IdentRef<'a>>
-        ensures { option_map ident_text_of result ≡ line_parts line.now }
+        ensures { option_map Spec.ident_text_of result ≡ Spec.line_parts line.now }
     {
         let (name, rest) = cut_at(line, b'<')?;
         let (mail, _) = cut_at(rest, b'>')?;
@@ -87,28 +85,28 @@ impl<'a> IdentRef<'a> {
 
 /// A text without the blanks at its end.
 fn without_last_blanks(text: &[u8]) -> &[u8]
-    ensures { result.now ≡ without_end is_blank text.now }
+    ensures { result.now ≡ Spec.without_end Spec.is_blank text.now }
 {
     &text[..text.len() - last_blanks_len(text)]
 }
 
 /// What stands after the last `>` of a line, and blanks.
 fn date_text(line: &[u8]) -> &[u8]
-    ensures { result.now ≡ date_text line.now }
+    ensures { result.now ≡ Spec.date_text line.now }
 {
     without_first_blanks(&line[line.len() - tail_len(line)..])
 }
 
 fn without_first_blanks(text: &[u8]) -> &[u8]
-    ensures { result.now ≡ without_front is_blank text.now }
+    ensures { result.now ≡ Spec.without_front Spec.is_blank text.now }
 {
     &text[blanks_len(text)..]
 }
 
 /// The date at the front of a text: digits, blanks or none, a sign and digits.
-#[tactic(auto, unfolding(crate::specs::Ident::Parts::date_parts))]
+#[tactic(auto, unfolding(crate::specs::date_parts))]
 fn date_parts(text: &[u8]) -> Option<DateParts<'_>>
-    ensures { option_map date_text_of result ≡ date_parts text.now }
+    ensures { option_map Spec.date_text_of result ≡ Spec.date_parts text.now }
 {
     let rest = after_seconds(text);
     if !begins_with_digit(text) || !begins_with_offset(rest) {
@@ -122,14 +120,14 @@ fn date_parts(text: &[u8]) -> Option<DateParts<'_>>
 
 /// What stands after digits and blanks.
 fn after_seconds(text: &[u8]) -> &[u8]
-    ensures { result.now ≡ after_seconds text.now }
+    ensures { result.now ≡ Spec.after_seconds text.now }
 {
     without_first_blanks(&text[digits_len(text)..])
 }
 
 /// Whether a text begins with a sign, and a digit directly after it.
 fn begins_with_offset(text: &[u8]) -> bool
-    ensures { result ≡ begins_with_offset text.now }
+    ensures { result ≡ Spec.begins_with_offset text.now }
 {
     begins_with_sign(text) && begins_with_digit(after_one(text))
 }

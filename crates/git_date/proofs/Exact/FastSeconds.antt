@@ -50,7 +50,7 @@ pair-digits n tens ones rest h e more =
     let b : is_ascii_digit ones ≡ true = grind (arith, nat_tests) in
     join _ _ a (join _ _ b more)
 
-pub ten-digits : (text : List ℕ) (p q r s u : ℕ) → 10 ≤ length text → length text < 11 → WritesTwo 10 40 (get_or text 0 0) (get_or text 1 0) p
+ten-digits : (text : List ℕ) (p q r s u : ℕ) → 10 ≤ length text → length text < 11 → WritesTwo 10 40 (get_or text 0 0) (get_or text 1 0) p
     → WritesTwo 0 99 (get_or text 2 0) (get_or text 3 0) q → WritesTwo 0 99 (get_or text 4 0) (get_or text 5 0) r → WritesTwo 0 99 (get_or text 6 0) (get_or text 7 0) s
     → WritesTwo 0 99 (get_or text 8 0) (get_or text 9 0) u → WritesSeconds text (100 * (100 * (100 * (100 * p + q) + r) + s) + u)
 unfolding number
@@ -74,6 +74,11 @@ ten-digits (a ∷ b ∷ c ∷ d ∷ e ∷ f ∷ g ∷ h ∷ i ∷ j ∷ []) p q 
           omega (arith, folded, most, most_q, most_r, most_s, most_u);
     }
 ten-digits text p q r s u low high v w x y z = absurd (omega (arith, low, high))
+
+pub ten_digits : (text : List ℕ) (p q r s u n : ℕ) → 10 ≤ length text → length text < 11 → WritesTwo 10 40 (get_or text 0 0) (get_or text 1 0) p
+    → WritesTwo 0 99 (get_or text 2 0) (get_or text 3 0) q → WritesTwo 0 99 (get_or text 4 0) (get_or text 5 0) r → WritesTwo 0 99 (get_or text 6 0) (get_or text 7 0) s
+    → WritesTwo 0 99 (get_or text 8 0) (get_or text 9 0) u → n ≡ 100 * (100 * (100 * (100 * p + q) + r) + s) + u → WritesSeconds text n
+ten_digits text p q r s u n low high v w x y z is = subst (WritesSeconds text) (sym is) (ten-digits text p q r s u low high v w x y z)
 
 -- `@`
 abbrev pub sign_byte : Bool → ℕ

@@ -1,5 +1,6 @@
 -- Dates as Git prints them say the fields that are written there.
-use Rattle.std.proofs.Common.{◌≡◌, ◌∙◌, ◌<◌, append_assoc, ℕ, ℤ, pos, ◌*ℤ◌, List, ◌∷◌, ◌++◌, ap, ap₂, sym, subst, arith, inl, inr, Ok, None, take, drop, take-append-drop}
+use Rattle.std.proofs.Common.{◌≡◌, ◌∙◌, ◌<◌, ◌≤◌, ◌+◌, length, get_or, [], Option, Some, IfSome, append_assoc, ℕ, ℤ, pos, ◌*ℤ◌, List, ◌∷◌, ◌++◌, ap, ap₂, sym, subst, arith, inl, inr, Ok, None, take, drop, take-append-drop}
+use Rattle.std.proofs.lemmas.Fmt.{decimal_digit}
 use Rattle.jiff_core.proofs.SignedLemmas.{signed_arith}
 use Rattle.gix_date.specs.Fields.DateOffsets.{strict_offset_text}
 use Rattle.gix_date.specs.Fields.FieldTexts.{four_digits, clock_text}
@@ -7,7 +8,7 @@ use Rattle.gix_date.specs.Fields.Layout.{LocalTime}
 use Rattle.gix_date.specs.Fields.Offsets.{compact_offset_text}
 use Rattle.gix_date.specs.Text.Characters.{space, comma, letter_t}
 use Rattle.gix_date.specs.Text.Names.{day_name, month_name}
-use Rattle.git_date.specs.Exact.Fast.{IsGitDate, WritesDate, WritesDay, WritesMailDate, WritesMailDay, WritesNamedDay, WritesClock, WritesOffset, WritesTime, WritesStrictTime, WritesYearTime, fields_in, SaysFields}
+use Rattle.git_date.specs.Exact.Fast.{IsGitDate, WritesTwo, WritesDate, WritesDay, WritesMailDate, WritesMailDay, WritesNamedDay, WritesClock, WritesOffset, WritesTime, WritesStrictTime, WritesYearTime, fields_in, SaysFields}
 use Rattle.git_date.specs.Exact.Reading.{fields_said, said_by}
 use Rattle.git_date.specs.declared.fields.Fields.{Fields}
 use Rattle.git_date.specs.declared.fields.dates.Now.{Now}
@@ -120,7 +121,7 @@ mail_says text front back date clock offset whole n w =
 named-joined : (name month day back : List ℕ) → name ++ (space ∷ (month ++ (space ∷ (day ++ back)))) ≡ (name ++ (space ∷ (month ++ (space ∷ day)))) ++ back
 named-joined name month day back = simp append_assoc
 
-pub default-says : (text front back : List ℕ) (year : ℕ) (date : ℕ × ℕ) (clock : ℕ × ℕ × ℕ) (offset : ℤ) → front ++ back ≡ text → WritesNamedDay front date
+default-says : (text front back : List ℕ) (year : ℕ) (date : ℕ × ℕ) (clock : ℕ × ℕ × ℕ) (offset : ℤ) → front ++ back ≡ text → WritesNamedDay front date
     → WritesYearTime back (clock, year, offset) → SaysFields text (fields_in (year, date.0, date.1) clock offset)
 default-says text front back year date clock offset whole n w =
     let r = w.is_rest in
@@ -139,3 +140,18 @@ default-says text front back year date clock offset whole n w =
     (ap₂ (λ (x y : List ℕ). x ++ (space ∷ (y ++ (space ∷ n.day)))) n.is_name.is n.is_month.is ∙ n.is)
     (ap₂ (λ (x y : List ℕ). space ∷ (x ++ y)) w.is_clock.is (ap₂ (λ (x y : List ℕ). space ∷ (x ++ (space ∷ y))) r.is_year.is r.is_offset.is ∙ r.is) ∙ w.is)
     ∙ whole)
+
+pub default_says : (text front back : List ℕ) (year month day : ℕ) (clock : ℕ × ℕ × ℕ) (offset : ℤ) → front ++ back ≡ text → WritesNamedDay front (month, day)
+    → WritesYearTime back (clock, year, offset) → SaysFields text (fields_in (year, month, day) clock offset)
+default_says text front back year month day clock offset whole n w = default-says text front back year (month, day) clock offset whole n w
+
+-- one digit is a day
+pub one_digit : (text : List ℕ) (found : Option ℕ) → 1 ≤ length text → length text < 2 → IfSome found (WritesTwo 1 9 48 (get_or text 0 0)) → IfSome found (WritesDay text)
+one_digit text None low high h = tt
+one_digit [] (Some n) low high h = absurd (omega (arith, low))
+one_digit (a ∷ b ∷ text) (Some n) low high h = absurd (omega (arith, high))
+one_digit (a ∷ []) (Some n) low high h =
+    let most = h.most in
+    let ones = ap (λ (digits : List ℕ). get_or digits 1 0) h.is in
+    let is : 48 + n ≡ a = omega (arith, ones, most) in
+    record { first = h.least; last = omega (arith, most); is = inr (decimal_digit n (omega (arith, most)) ∙ ap (λ (c : ℕ). c ∷ []) is) }

@@ -26,7 +26,7 @@ use Rattle.git_date.specs.declared.fields.groups.Number.{Number}
 use Rattle.git_date.proofs.Rules.Kept.{either, group_after}
 use Rattle.git_date.proofs.Exact.NoSeconds.{AreAll, Keeps, Quiet, not-large, no-seconds}
 use Rattle.git_date.specs.Tokens.Steps.{and_then}
-use Rattle.git_date.specs.declared.fault.Fault.{Fault}
+use Rattle.git_date.specs.declared.error.Fault.{Fault}
 
 -- tokens of no long number, and of no colon
 abbrev pub Tame : Token → Type 0

@@ -18,7 +18,7 @@ use Rattle.git_date.specs.Tokens.Tokens.{Token, Letters, Digits, Mark, bytes_lef
 use Rattle.git_date.specs.Rules.Words.{with_zone, is_filler, half_or_filler, with_word, letters_rule}
 use Rattle.git_date.specs.declared.fields.dates.Now.{Now}
 use Rattle.git_date.specs.declared.error.DateError.TheVariants.{Unreadable}
-use Rattle.git_date.specs.declared.fault.Fault.{Fault}
+use Rattle.git_date.specs.declared.error.Fault.{Fault}
 use Rattle.git_date.specs.declared.fields.Fields.{Fields}
 use Rattle.git_date.specs.declared.fields.offsets.Padded.{Padded}
 use Rattle.git_date.specs.declared.reader.Reading.{Reading}

@@ -19,8 +19,8 @@ use Rattle.git_date.specs.Exact.Zones.{states_of}
 use Rattle.git_date.specs.declared.fields.dates.Now.{Now}
 use Rattle.git_date.specs.declared.error.DateError.{DateError}
 use Rattle.git_date.specs.declared.error.DateError.TheVariants as error
-use Rattle.git_date.specs.declared.fault.Fault.{Fault}
-use Rattle.git_date.specs.declared.fault.Fault.TheVariants as fault
+use Rattle.git_date.specs.declared.error.Fault.{Fault}
+use Rattle.git_date.specs.declared.error.Fault.TheVariants as fault
 use Rattle.git_date.specs.declared.reader.Reading.{Reading}
 use Rattle.git_date.specs.declared.reader.Said.{Said}
 use Rattle.git_date.proofs.Rules.Kept.{IsKept, IsAt, IsReadAt, steps-at, either}

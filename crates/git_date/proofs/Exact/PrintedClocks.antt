@@ -42,7 +42,7 @@ use Rattle.git_date.proofs.Text.Walked.{nothing-left}
 use Rattle.git_date.proofs.Text.TokenRuns.{digit-first, letter-first, mark-first}
 use Rattle.git_date.specs.Tokens.Steps.{and_then}
 use Rattle.std.specs.Option.{option_map_or}
-use Rattle.git_date.specs.declared.fault.Fault.{Fault}
+use Rattle.git_date.specs.declared.error.Fault.{Fault}
 
 -- digits before other tokens
 abbrev pub HasNoDigits : List Token → Type 0

@@ -1,11 +1,15 @@
 -- Git's search by its steps.
-use Rattle.std.proofs.Common.{◌≡◌, ◌∙◌, ℕ, zero, suc, ◌+◌, ◌-◌, ◌≤◌, ℤ, pos, ◌-ℤ◌, ◌*ℤ◌, Bool, true, false, cond, Option, Some, None, IfSome, refl, sym, ap, ap₂, arith, option_and_then, unwrap_or}
+use Rattle.std.proofs.Common.{◌≡◌, ◌∙◌, ℕ, zero, suc, ◌+◌, ◌-◌, ◌≤◌, ℤ, pos, ◌+ℤ◌, ◌-ℤ◌, ◌*ℤ◌, ◌^◌, Bool, true, false, cond, Option, Some, None, IfSome, refl, sym, ap, ap₂, arith, option_and_then, unwrap_or}
 use mathlib.Core.Bool.{beq}
 use Rattle.std.proofs.lemmas.Bool.Decides.{Decides-int_eq}
 use Rattle.std.specs.Ordering.{int_eq}
-use Rattle.std.specs.Option.{option_or}
+use Rattle.std.specs.Option.{option_or, is_some}
+use Rattle.jiff_core.proofs.SignedLemmas.{signed_arith}
+use Rattle.jiff.specs.Words.{IsOffsetSeconds}
+use Rattle.jiff_core.specs.Calendar.{IsWithin}
+use Rattle.gix_date.proofs.Fields.Instants.{instant_holds}
 use Rattle.gix_date.specs.Fields.Zoned.{is_instant}
-use Rattle.git_date.specs.Exact.Zones.{States, state_by, same_flag, flag_step, flag_steps, flagged_at, nearest, hour_off, by_flag, first_trail, moved, is_back, searched, most_moves, found_offset}
+use Rattle.git_date.specs.Exact.Zones.{States, state_by, same_flag, flag_step, flag_steps, flagged, flagged_at, nearest, hour_off, by_flag, first_trail, moved, is_back, searched, most_moves, found_offset}
 use Rattle.git_date.specs.declared.zones.Asked.{Asked}
 use Rattle.git_date.specs.declared.zones.Trail.{Trail}
 use Rattle.git_date.specs.declared.zones.ZoneState.{ZoneState}
@@ -43,19 +47,37 @@ module _ (zone : States) (flag : Bool) (instant : ℤ) where
   pub found-by : (n most : ℕ) (offset : ℤ) → n ≤ most → after n ≡ Some offset → after most ≡ Some offset
   found-by n most offset h e = let same : most - n + n ≡ most = omega arith in rw same at (keeps (most - n) n offset e)
 
--- flags that are compared
-pub other-told : (flag other : Bool) → beq flag other ≡ false → same_flag flag other ≡ false
-other-told true true h = h
-other-told true false h = h
-other-told false true h = h
-other-told false false h = h
+-- an instant is near 1970
+pub instant_within : (s : ℤ) → is_instant s ≡ true → IsWithin (10 ^ 14) s
+instant_within s h = let near = instant_holds s h in (omega (arith, signed_arith, near), omega (arith, signed_arith, near))
 
--- with another flag than is asked, the nearest that has it counts
-pub other-flag : (zone : States) (asked : Asked) (flag : Bool) (there : ZoneState) → asked.daylight ≡ Some flag → same_flag flag there.daylight ≡ false
-    → unwrap_or (nearest flag_steps zone flag (asked.clock -ℤ there.offset)) (hour_off flag there.offset) ≡ by_flag zone asked asked.daylight there
-other-flag zone asked flag there is other =
-    ap (λ (same : Bool). cond same there.offset (unwrap_or (nearest flag_steps zone flag (asked.clock -ℤ there.offset)) (hour_off flag there.offset))) (sym other)
-    ∙ ap (λ (daylight : Option Bool). by_flag zone asked daylight there) (sym is)
+pub clock_within : (clock offset : ℤ) → is_instant (clock -ℤ offset) ≡ true → IsOffsetSeconds offset → IsWithin (10 ^ 16) clock
+clock_within clock offset h near =
+    let at = instant_holds (clock -ℤ offset) h in
+    (omega (arith, signed_arith, at, near), omega (arith, signed_arith, at, near))
+
+-- the first side that has a flag
+pub found_before : (zone : States) (flag : Bool) (instant distance before : ℤ) (found : Option ℤ) → before ≡ instant -ℤ distance → found ≡ flagged flag (zone before)
+    → is_some found ≡ true → found ≡ flagged_at zone flag instant distance
+unfolding flagged_at
+found_before zone flag instant distance before None is e some = absurd cc
+found_before zone flag instant distance before (Some offset) is e some =
+    ap (λ (first : Option ℤ). option_or first (flagged flag (zone (instant +ℤ distance)))) (e ∙ ap (λ (s : ℤ). flagged flag (zone s)) is)
+
+pub found_after : (zone : States) (flag : Bool) (instant distance before after : ℤ) (first found : Option ℤ) → before ≡ instant -ℤ distance → after ≡ instant +ℤ distance
+    → first ≡ flagged flag (zone before) → is_some first ≡ false → found ≡ flagged flag (zone after) → found ≡ flagged_at zone flag instant distance
+unfolding flagged_at
+found_after zone flag instant distance before after (Some offset) found is later h some e = absurd cc
+found_after zone flag instant distance before after None found is later none some e =
+    e ∙ ap (λ (s : ℤ). flagged flag (zone s)) later
+    ∙ ap (λ (first : Option ℤ). option_or first (flagged flag (zone (instant +ℤ distance)))) (none ∙ ap (λ (s : ℤ). flagged flag (zone s)) is)
+
+-- flags that are compared
+pub other_told : (flag other : Bool) → beq flag other ≡ false → same_flag flag other ≡ false
+other_told true true h = h
+other_told true false h = h
+other_told false true h = h
+other_told false false h = h
 
 same-itself : (flag : Bool) → same_flag flag flag ≡ true
 same-itself true = refl

@@ -1,5 +1,5 @@
 -- What a zone says of instants, and how far its clock is from UTC.
-use Rattle.std.proofs.Common.{◌≡◌, ◌∙◌, ℤ, Bool, true, false, cond, Option, Some, None, Result, Ok, Err, refl, sym, pos, ◌*ℤ◌, arith, ap, nat_eq, of_z, FitsSigned, w32}
+use Rattle.std.proofs.Common.{◌≡◌, ◌∙◌, ℤ, Bool, true, false, cond, Option, Some, None, Result, Ok, Err, refl, sym, arith, ap, nat_eq, of_z, FitsSigned, w32}
 use Rattle.jiff.specs.Types.{TimeZone, UTC, Unknown, Fixed, Posix, Tzif}
 use Rattle.jiff.specs.Words.{nanos_of_seconds, offset_at, IsFixed, IsInfoAt, IsOffsetSeconds}
 use Rattle.jiff_core.proofs.SignedLemmas.{nat_eq-bits}
@@ -15,18 +15,13 @@ use Rattle.jiff_tz.specs.PosixRule.{match_some}
 use Rattle.jiff_tz.specs.Tzif as table
 use Rattle.jiff_tz.specs.Zone.{zero_in_range}
 use Rattle.gix_date.specs.Fields.Zoned.{is_instant}
-use Rattle.gix_date.specs.declared.time.Time.{Time}
-use Rattle.git_date.specs.Exact.Outcome.{instant_seconds, date_at, date_of, said_offset, at_offset}
+use Rattle.git_date.specs.Exact.Outcome.{date_of, said_offset, at_offset}
 use Rattle.git_date.specs.Exact.Zones.{daylight_at, state_there, states_of}
 use Rattle.git_date.specs.declared.zones.ZoneState.{ZoneState}
 use Rattle.git_date.specs.declared.reader.Said.{Said}
-use Rattle.git_date.specs.declared.date.ReadDate.{ReadDate}
 use Rattle.git_date.specs.declared.error.DateError.{DateError}
-use Rattle.git_date.specs.declared.error.DateError.TheVariants.{Range}
 use Rattle.std.proofs.lemmas.Bool.Decides.{nat_tests}
-use Rattle.std.specs.Int.Signed.{le_z}
 use Rattle.std.specs.Ordering.{int_eq}
-use Rattle.std.specs.Option.{is_some}
 
 -- what a zone says of an instant
 pub says-there : (tz : TimeZone) (s : ℤ) (there : ZoneState) → is_instant s ≡ true → there ≡ state_there tz (nanos_of_seconds s)
@@ -101,17 +96,6 @@ pub other-bits : (a b : ℤ) → FitsSigned w32 a → FitsSigned w32 b → ¬ (o
 other-bits a b fits other e =
     let unlike : nat_eq (of_z w32 a) (of_z w32 b) ≡ false = grind (arith, nat_tests) in
     sym (nat_eq-bits w32 a b fits other) ∙ unlike
-
-abbrev read_at : Said → Time → Result ReadDate DateError
-read_at said t = Ok (record { time = t; has_offset = is_some said.offset; ignored = said.ignored })
-
--- a date that is not before 1970
-pub a-date : (said : Said) (m : ℤ) (t : Time) → le_z (pos 0) (instant_seconds said m) ≡ true
-    → t ≡ record { seconds = instant_seconds said m; offset = pos 60 *ℤ m } → read_at said t ≡ date_at said m
-unfolding date_at
-a-date said m t h e =
-    ap (read_at said) e
-    ∙ ap (λ (b : Bool). cond b (read_at said (record { seconds = instant_seconds said m; offset = pos 60 *ℤ m })) (Err Range)) (sym h)
 
 -- an offset that is said leaves nothing to the zone
 pub moved : (tz other : TimeZone) (read : Result Said DateError) (minutes : ℤ) → said_offset read ≡ Some minutes → date_of tz read ≡ date_of other read

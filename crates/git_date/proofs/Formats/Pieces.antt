@@ -7,7 +7,7 @@ use Rattle.std.proofs.lemmas.List.Sums.{prefix_len-le-length}
 use Rattle.std.proofs.lemmas.Str.{IsCharBoundary-after_ascii}
 use Rattle.std.specs.List.{slice_get}
 use Rattle.std.specs.Str.{IsCharBoundary}
-use Rattle.git_date.specs.declared.format.fault.FormatFault.{FormatFault}
+use Rattle.git_date.specs.declared.format.error.FormatFault.{FormatFault}
 use Rattle.git_date.specs.Formats.Pieces.{Made, Piece, Text, Begun, made_if, made_at, begun, next_piece, text_piece, is_percent, percent, text_len, marks_len, digits_len, after_marks, after_digits, letter_place}
 use Rattle.git_date.proofs.Formats.Letters.{made-ascii}
 

@@ -11,10 +11,10 @@ use Rattle.gix_date.specs.Fields.FieldTexts.{four_digits}
 use Rattle.gix_date.specs.Text.Numbers.{two_digits}
 use Rattle.git_date.specs.declared.format.directives.Directive.{Directive}
 use Rattle.git_date.specs.declared.format.directives.Plain.{Plain}
-use Rattle.git_date.specs.declared.format.fault.FormatFault.{FormatFault}
+use Rattle.git_date.specs.declared.format.error.FormatFault.{FormatFault}
 use Rattle.git_date.specs.Formats.Directives.{plain_lettered, directive_lettered}
 use Rattle.git_date.specs.Formats.Flags.{filled, is_flag}
-use Rattle.git_date.specs.Formats.Format.{piece_text, texts}
+use Rattle.git_date.specs.Formats.Format.{piece_text, pieces_text}
 use Rattle.git_date.specs.Formats.Pieces.{Made, Piece, Begun, begun, digits_len, letter_place, made_at, made_by, made_if, marks_len, next_piece, percent, plain_or_directive}
 use Rattle.git_date.specs.Formats.Short.{letter_text, made_text, Passes}
 use Rattle.git_date.specs.Formats.Shown.{Shown}
@@ -138,8 +138,8 @@ usual-cut shown text bytes old new utf8 e len h =
     cut-by shown text old new utf8 (omega (arith, ap (λ (xs : List ℕ). length xs) e)) told
 
 -- one piece more
-pub left-passed : (shown : Shown) (text rest further start old new : List ℕ) → Left text rest (λ done. old ≡ start ++ texts shown done) → 0 < length rest
-    → Passes shown rest further old new → Left text further (λ done. new ≡ start ++ texts shown done)
+pub left-passed : (shown : Shown) (text rest further start old new : List ℕ) → Left text rest (λ done. old ≡ start ++ pieces_text shown done) → 0 < length rest
+    → Passes shown rest further old new → Left text further (λ done. new ≡ start ++ pieces_text shown done)
 left-passed shown text rest further start old new left h p =
     left-next text rest further _ _ p.piece left h p.first p.shorter
     (λ done e. grown-more shown start old new done p.piece (piece_text shown p.piece) refl e p.said)

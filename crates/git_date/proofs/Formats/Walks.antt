@@ -4,8 +4,8 @@ use Rattle.std.proofs.lemmas.Bool.{false≢true}
 use Rattle.std.proofs.lemmas.Bool.Decides.{nat_tests}
 use Rattle.std.specs.Result.{result_unwrap_or, result_err, is_ok}
 use Rattle.std.specs.Prelude.{◌||◌, ◌==◌, option_map}
-use Rattle.git_date.specs.declared.format.fault.FormatFault.{FormatFault}
-use Rattle.git_date.specs.Formats.Format.{piece_text, texts, is_seconds, asks_seconds}
+use Rattle.git_date.specs.declared.format.error.FormatFault.{FormatFault}
+use Rattle.git_date.specs.Formats.Format.{piece_text, pieces_text, is_seconds, asks_seconds}
 use Rattle.git_date.specs.Formats.Pieces.{Piece, next_piece, pieces, pieces_in, then_pieces, piece_before, pieces_or_none, is_format, placed, format_fault, checked, checked_by}
 use Rattle.git_date.specs.Formats.Shown.{Shown}
 
@@ -156,15 +156,15 @@ asked text rest further P piece left h e shorter whole seconds =
     sym (ap asks_seconds (sym more.1) ∙ any-front next.done more.0 next.so_far)
 
 -- texts of pieces, one after the other
-pub texts-append : (shown : Shown) (xs ys : List Piece) → texts shown (xs ++ ys) ≡ texts shown xs ++ texts shown ys
+pub texts-append : (shown : Shown) (xs ys : List Piece) → pieces_text shown (xs ++ ys) ≡ pieces_text shown xs ++ pieces_text shown ys
 texts-append shown [] ys = refl
 texts-append shown (x ∷ xs) ys =
     ap (λ (text : List ℕ). piece_text shown x ++ text) (texts-append shown xs ys)
-    ∙ sym (append_assoc (piece_text shown x) (texts shown xs) (texts shown ys))
+    ∙ sym (append_assoc (piece_text shown x) (pieces_text shown xs) (pieces_text shown ys))
 
-pub texts-more : (shown : Shown) (done : List Piece) (piece : Piece) → texts shown (done ++ piece ∷ []) ≡ texts shown done ++ piece_text shown piece
+pub texts-more : (shown : Shown) (done : List Piece) (piece : Piece) → pieces_text shown (done ++ piece ∷ []) ≡ pieces_text shown done ++ piece_text shown piece
 texts-more shown done piece =
-    texts-append shown done (piece ∷ []) ∙ ap (λ (text : List ℕ). texts shown done ++ text) (append-nil (piece_text shown piece))
+    texts-append shown done (piece ∷ []) ∙ ap (λ (text : List ℕ). pieces_text shown done ++ text) (append-nil (piece_text shown piece))
 
 -- a format as it is checked
 pub checked_fault : (text : List ℕ) (fault : FormatFault) → Some fault ≡ format_fault text → Err fault ≡ checked text
@@ -179,14 +179,14 @@ whole-checked-by : (text : List ℕ) (r : Pieces) → is_ok r ≡ true → check
 whole-checked-by text (Ok ps) h = refl
 whole-checked-by text (Err e) h = absurd cc
 
-pub whole-checked : (text : List ℕ) → is_format text ≡ true → checked text ≡ Ok text
+pub whole_checked : (text : List ℕ) → is_format text ≡ true → checked text ≡ Ok text
 unfolding checked
-whole-checked text h = whole-checked-by text (pieces text) h
+whole_checked text h = whole-checked-by text (pieces text) h
 
 -- a text that grows by the text of one piece more
 pub grown-more : (shown : Shown) (old mid new : List ℕ) (done : List Piece) (piece : Piece) (text : List ℕ) → text ≡ piece_text shown piece
-    → mid ≡ old ++ texts shown done → new ≡ mid ++ text → new ≡ old ++ texts shown (done ++ piece ∷ [])
+    → mid ≡ old ++ pieces_text shown done → new ≡ mid ++ text → new ≡ old ++ pieces_text shown (done ++ piece ∷ [])
 grown-more shown old mid new done piece text is e h =
-    h ∙ ap (λ (xs : List ℕ). xs ++ text) e ∙ append_assoc old (texts shown done) text
-    ∙ ap (λ (more : List ℕ). old ++ (texts shown done ++ more)) is
+    h ∙ ap (λ (xs : List ℕ). xs ++ text) e ∙ append_assoc old (pieces_text shown done) text
+    ∙ ap (λ (more : List ℕ). old ++ (pieces_text shown done ++ more)) is
     ∙ ap (λ (more : List ℕ). old ++ more) (sym (texts-more shown done piece))

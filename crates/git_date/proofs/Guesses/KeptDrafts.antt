@@ -11,22 +11,22 @@ use Rattle.git_date.specs.Tokens.Tokens.{Token, Letters, Digits, Mark, bytes_lef
 use Rattle.git_date.specs.Rules.Words.{is_filler}
 use Rattle.git_date.specs.Exact.Reading.{ended}
 use Rattle.git_date.specs.Approximate.Drafts.{with_shown, earlier, ignore, with_number, settle_number, without_number, settle, dropped, with_half, with_hour, is_before, units, less_months}
-use Rattle.git_date.specs.Approximate.Reading.{Read, rule, steps}
-use Rattle.git_date.specs.Approximate.Rules.{Ruled, used, hour_rule, back_rule, unit_rule, counted_by, count_waits, meaning_rule, word_by, read_word, understood, are_digits_next, first_instant, letters_rule, is_padded, group_or_number, digits_rule}
+use Rattle.git_date.specs.Approximate.Reading.{Read, approximate_rule, approximate_steps}
+use Rattle.git_date.specs.Approximate.Rules.{Ruled, used, hour_rule, back_rule, unit_rule, counted_by, count_waits, meaning_rule, word_by, read_word, understood, are_digits_next, first_instant, approximate_letters_rule, is_padded, group_or_number, approximate_digits_rule}
 use Rattle.git_date.specs.Approximate.Words.{meaning_of}
-use Rattle.git_date.specs.Approximate.Zones.{shown_in, filled, moved_to, before, fill}
+use Rattle.git_date.specs.Approximate.Zones.{shown_in, filled_instant, moved_to, before, fill}
 use Rattle.git_date.specs.Exact.Zones.{States}
-use Rattle.git_date.specs.declared.approximate.answer.Today.{Today}
+use Rattle.git_date.specs.declared.approximate.Today.{Today}
 use Rattle.git_date.specs.declared.approximate.drafts.Draft.{Draft}
 use Rattle.git_date.specs.declared.approximate.meanings.Meaning.{Meaning}
 use Rattle.git_date.specs.declared.approximate.meanings.Meaning.TheVariants.{Month, Back, Never, Hour, Morning, Afternoon, Count}
 use Rattle.git_date.specs.declared.approximate.meanings.Meaning.TheVariants as meaning
 use Rattle.git_date.specs.declared.approximate.meanings.Unit.{Unit as Counted}
 use Rattle.git_date.specs.declared.approximate.meanings.Unit.TheVariants.{Seconds, Weekday, Months}
-use Rattle.git_date.specs.declared.approximate.shown.ZoneClock.{ZoneClock}
+use Rattle.git_date.specs.declared.approximate.zone.ZoneClock.{ZoneClock}
 use Rattle.git_date.specs.declared.approximate.zone.Found.{Found}
-use Rattle.git_date.specs.declared.fault.Fault.{Fault}
-use Rattle.git_date.specs.declared.fault.Fault.TheVariants.{BackTooFar, Range}
+use Rattle.git_date.specs.declared.error.Fault.{Fault}
+use Rattle.git_date.specs.declared.error.Fault.TheVariants.{BackTooFar, Range}
 use Rattle.git_date.specs.declared.fields.Fields.{Fields}
 use Rattle.git_date.specs.declared.fields.dates.Now.{Now}
 use Rattle.git_date.specs.declared.fields.groups.Number.{Number}
@@ -101,7 +101,7 @@ module _ (P : ℕ → Type 0) where
 
   fill-at : (zone : States) (today : LocalTime) (d : Draft) (back left : ℕ) → P left → IsDraftAt d → IsDraftedAt (fill zone today d back left)
   unfolding fill
-  fill-at zone today d back left p h = filled-at zone d back left (filled zone today d.last d.fields) p h
+  fill-at zone today d back left p h = filled-at zone d back left (filled_instant zone today d.last d.fields) p h
 
   then-at : (a : Result Draft Fault) (go : Draft → Result Draft Fault) → IsDraftedAt a → ((d : Draft) → IsDraftAt d → IsDraftedAt (go d)) → IsDraftedAt (and_then a go)
   then-at (Ok d) go h next = next d h
@@ -160,8 +160,8 @@ module _ (P : ℕ → Type 0) where
   read-word-at d word left (Err fault) p h r = r
 
   letters-at : (zone : States) (today : LocalTime) (d : Draft) (run : List ℕ) (more : List Token) → P (bytes_left (Letters run ∷ more)) → IsDraftAt d
-      → IsDraftedAt (letters_rule zone today d run more)
-  unfolding letters_rule
+      → IsDraftedAt (approximate_letters_rule zone today d run more)
+  unfolding approximate_letters_rule
   letters-at zone today d run more p h =
       either IsDraftedAt (are_digits_next more) _ _ (ignore-at d _ p h)
       (read-word-at d run _ _ p h (word-at zone today d _ (meaning_of run) p h))
@@ -179,8 +179,8 @@ module _ (P : ℕ → Type 0) where
     number-at d run more (Ok (Some found)) p r h s = (h, s)
     number-at d run more (Err fault) p r h s = s
 
-    pub digits-at : (now : Now) (d : Draft) (run : List ℕ) (more : List Token) → P (bytes_left (Digits run ∷ more)) → R more → IsDraftAt d → ReadsOn (digits_rule now d run more)
-    unfolding digits_rule
+    pub digits-at : (now : Now) (d : Draft) (run : List ℕ) (more : List Token) → P (bytes_left (Digits run ∷ more)) → R more → IsDraftAt d → ReadsOn (approximate_digits_rule now d run more)
+    unfolding approximate_digits_rule
     digits-at now d run more p r h =
         either ReadsOn (is_too_large (number run)) _ _ p
         (number-at (understood (settle d)) run more _ p r (settle-at d h) (group-said-at R P k now (settle d).fields run more p r))
@@ -193,22 +193,22 @@ module _ (P : ℕ → Type 0) where
     letters-on (Ok d) more r h = (h, r)
     letters-on (Err fault) more r h = h
 
-    pub rule-on : (zone : States) (today : Today) (d : Draft) (t : Token) (more : List Token) → IsTokenAt R P k t more → R more → IsDraftAt d → ReadsOn (rule zone today d t more)
+    pub rule-on : (zone : States) (today : Today) (d : Draft) (t : Token) (more : List Token) → IsTokenAt R P k t more → R more → IsDraftAt d → ReadsOn (approximate_rule zone today d t more)
     rule-on zone today d (Letters run) more p r h = letters-on _ more r (letters-at zone today.shown.clock d run more p h)
     rule-on zone today d (Digits run) more p r h = ended-on _ (digits-at today.now d run more p r h)
     rule-on zone today d (Mark byte) more p r h = (h, r)
 
     read-then : (zone : States) (today : Today) (n : ℕ) (step : Read)
-        → ((d : Draft) (ts : List Token) → R ts → IsDraftAt d → IsDraftedAt (steps zone today n d ts)) → ReadsOn step
-        → IsDraftedAt (and_then step (λ next. steps zone today n next.0 next.1))
+        → ((d : Draft) (ts : List Token) → R ts → IsDraftAt d → IsDraftedAt (approximate_steps zone today n d ts)) → ReadsOn step
+        → IsDraftedAt (and_then step (λ next. approximate_steps zone today n next.0 next.1))
     read-then zone today n (Ok found) all h = all found.0 found.1 h.1 h.0
     read-then zone today n (Err fault) all h = h
 
-    pub steps-on : (zone : States) (today : Today) (n : ℕ) (d : Draft) (ts : List Token) → R ts → IsDraftAt d → IsDraftedAt (steps zone today n d ts)
+    pub steps-on : (zone : States) (today : Today) (n : ℕ) (d : Draft) (ts : List Token) → R ts → IsDraftAt d → IsDraftedAt (approximate_steps zone today n d ts)
     unfolding walked
     steps-on zone today zero d [] q h = h
     steps-on zone today zero d (t ∷ more) q h = h
     steps-on zone today (suc n) d [] q h = h
     steps-on zone today (suc n) d (t ∷ more) q h =
-        read-then zone today n (rule zone today d t more) (λ d ts q h. steps-on zone today n d ts q h)
+        read-then zone today n (approximate_rule zone today d t more) (λ d ts q h. steps-on zone today n d ts q h)
         (rule-on zone today d t more (token-place R P k t more q) (k.next t more q) h)

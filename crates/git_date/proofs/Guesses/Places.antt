@@ -1,5 +1,5 @@
 -- Where the places of approximate answers and of their refusals are: at characters of the text.
-use Rattle.std.proofs.Common.{pos, ℕ, List, [], length, sym, Option, Some, None, IfSome, Result, Ok, Err}
+use Rattle.std.proofs.Common.{◌≡◌, ◌∙◌, ap, subst, pos, ℕ, List, [], length, sym, Option, Some, None, IfSome, Result, Ok, Err}
 use Rattle.std.specs.Prelude.{◌||◌, bytes_eq, codes}
 use Rattle.std.specs.Int.Signed.{le_z}
 use Rattle.jiff.specs.declared.zoned.Zoned.{Zoned}
@@ -15,16 +15,16 @@ use Rattle.git_date.specs.Exact.Outcome.{date_of, HasPlacesIn}
 use Rattle.git_date.specs.Exact.Reading.{said_by}
 use Rattle.git_date.specs.Tokens.Strings.{before_nul, nul_place}
 use Rattle.git_date.specs.Tokens.Tokens.{tokens}
-use Rattle.git_date.specs.declared.approximate.answer.Approximate.{Approximate}
-use Rattle.git_date.specs.declared.approximate.answer.Today.{Today}
+use Rattle.git_date.specs.declared.approximate.Approximate.{Approximate}
+use Rattle.git_date.specs.declared.approximate.Today.{Today}
 use Rattle.git_date.specs.declared.approximate.drafts.Draft.{Draft}
 use Rattle.git_date.specs.declared.approximate.expiry.Expiry.{Expiry}
-use Rattle.git_date.specs.declared.approximate.shown.ZoneClock.{ZoneClock}
-use Rattle.git_date.specs.declared.date.ReadDate.{ReadDate}
+use Rattle.git_date.specs.declared.approximate.zone.ZoneClock.{ZoneClock}
+use Rattle.git_date.specs.declared.reader.ReadDate.{ReadDate}
 use Rattle.git_date.specs.declared.fields.dates.Now.{Now}
 use Rattle.git_date.specs.declared.error.DateError.{DateError}
-use Rattle.git_date.specs.declared.fault.Fault.{Fault}
-use Rattle.git_date.specs.declared.fault.Fault.TheVariants as fault
+use Rattle.git_date.specs.declared.error.Fault.{Fault}
+use Rattle.git_date.specs.declared.error.Fault.TheVariants as fault
 use Rattle.git_date.proofs.Rules.Kept.{IsFaultAt, IsAt, either}
 use Rattle.git_date.proofs.Guesses.KeptDrafts.{IsDraftedAt, settle-at, steps-on}
 use Rattle.git_date.proofs.Exact.Places.{Ends, IsPlaceOf, kept, runs-of, ignored-in, up-to-in, error-before, places}
@@ -80,7 +80,7 @@ exact-or-in : (text : List ℕ) (exact : Result ReadDate DateError) (guessed : R
 exact-or-in text (Ok date) guessed h g = h
 exact-or-in text (Err e) guessed h g = either (HasApproximatePlacesIn text) (is_unreadable e) guessed (Err e) g h
 
-pub approximate-places : (moment : Zoned) (text : List ℕ) → HasApproximatePlacesIn text (approximate moment text)
+approximate-places : (moment : Zoned) (text : List ℕ) → HasApproximatePlacesIn text (approximate moment text)
 approximate-places moment text =
     exact-or-in text (date_of (zone_of moment) (said_by (now_of moment) text)) (guess (states_of (zone_of moment)) (now_of moment) text)
     (places (zone_of moment) (now_of moment) text) (guess-in (states_of (zone_of moment)) (now_of moment) text)
@@ -104,3 +104,12 @@ expiry-by-in moment text None fixed = dated-in text (approximate moment text) (a
 
 pub expiry_places : (moment : Zoned) (text : List ℕ) → HasExpiryPlacesIn text (expiry_by moment text (fixed_expiry (before_nul text)))
 expiry_places moment text = expiry-by-in moment text (fixed_expiry (before_nul text)) (fixed-in text (before_nul text))
+
+-- those of an answer that is guessed where there is no exact one
+pub guessed_places : (moment : Zoned) (text : List ℕ) (e : DateError) (found : Result Approximate DateError)
+    → found ≡ exact_or_guess (Err e) (guess (states_of (zone_of moment)) (now_of moment) text) → Err e ≡ date_of (zone_of moment) (said_by (now_of moment) text)
+    → HasApproximatePlacesIn text found
+guessed_places moment text e found is exact =
+    let whole : found ≡ approximate moment text =
+    is ∙ ap (λ (exact : Result ReadDate DateError). exact_or_guess exact (guess (states_of (zone_of moment)) (now_of moment) text)) exact in
+    subst (HasApproximatePlacesIn text) (sym whole) (approximate-places moment text)

@@ -8,15 +8,15 @@ use Rattle.jiff_core.specs.Calendar.{IsBetween}
 use Rattle.gix_date.proofs.Fields.Instants.{instant_holds}
 use Rattle.gix_date.specs.Fields.Layout.{LocalTime}
 use Rattle.gix_date.specs.Fields.Zoned.{is_instant}
-use Rattle.git_date.specs.Approximate.Clocks.{shown_at}
-use Rattle.git_date.specs.Approximate.Zones.{clock_at, shown_in, found_by, found_at, filled, moved_to, before, fill}
+use Rattle.git_date.specs.Approximate.Clocks.{clock_shown_at}
+use Rattle.git_date.specs.Approximate.Zones.{clock_at, shown_in, found_by, found_at, filled_instant, moved_to, before, fill}
 use Rattle.git_date.specs.Exact.Zones.{States, states_of, state_there, before_leap, found_offset}
 use Rattle.git_date.specs.Tokens.Steps.{and_then}
 use Rattle.git_date.specs.declared.approximate.drafts.Draft.{Draft}
 use Rattle.git_date.specs.declared.approximate.drafts.LastShown.{LastShown}
 use Rattle.git_date.specs.declared.approximate.zone.Found.{Found}
-use Rattle.git_date.specs.declared.fault.Fault.{Fault}
-use Rattle.git_date.specs.declared.fault.Fault.TheVariants.{Range}
+use Rattle.git_date.specs.declared.error.Fault.{Fault}
+use Rattle.git_date.specs.declared.error.Fault.TheVariants.{Range}
 use Rattle.git_date.specs.declared.zones.ZoneState.{ZoneState}
 
 -- a zone says something of instants alone
@@ -29,11 +29,11 @@ is-instant-of tz s there h = by (is_instant s) h
 
 -- what the zone's clock shows
 pub shown-there : (zone : States) (instant : ℤ) (there : ZoneState) (shown : Option LocalTime) → Some there ≡ zone instant
-    → shown ≡ shown_at (instant +ℤ there.offset) → option_map (clock_at there) shown ≡ shown_in zone instant
+    → shown ≡ clock_shown_at (instant +ℤ there.offset) → option_map (clock_at there) shown ≡ shown_in zone instant
 unfolding shown_in
 shown-there zone instant there shown h e =
     ap (option_map (clock_at there)) e
-    ∙ ap (option_and_then (λ (there : ZoneState). option_map (clock_at there) (shown_at (instant +ℤ there.offset)))) h
+    ∙ ap (option_and_then (λ (there : ZoneState). option_map (clock_at there) (clock_shown_at (instant +ℤ there.offset)))) h
 
 -- the instant that is found is near the clock
 pub found-near : (leap : Bool) (local guess : ℤ) → is_instant (before_leap leap local) ≡ true → FitsSigned w32 guess
@@ -52,7 +52,8 @@ unfolding found_at
 found-there zone last leap local guess h = ap (option_map (found_by local)) h
 
 -- a date that is filled in
-pub filled-by : (zone : States) (today : LocalTime) (d : Draft) (back left : ℕ) (found : Found) (r : Result Draft Fault) → Some found ≡ filled zone today d.last d.fields
-    → r ≡ moved_to zone d left (before found back) → r ≡ fill zone today d back left
+pub filled_by : (zone : States) (today : LocalTime) (d : Draft) (back left : ℕ) (found : Found) (s : ℤ) (r : Result Draft Fault) → s ≡ found.instant -ℤ pos back → Some found ≡ filled_instant zone today d.last d.fields
+    → r ≡ moved_to zone d left (record { instant = s; guess = found.guess }) → r ≡ fill zone today d back left
 unfolding fill
-filled-by zone today d back left found r e is = is ∙ ap (λ (o : Option Found). and_then (ok_or o Range) (λ found. moved_to zone d left (before found back))) e
+filled_by zone today d back left found s r at e is =
+    is ∙ ap (λ (s : ℤ). moved_to zone d left (record { instant = s; guess = found.guess })) at ∙ ap (λ (o : Option Found). and_then (ok_or o Range) (λ found. moved_to zone d left (before found back))) e

@@ -1,5 +1,5 @@
 -- How long an offset is as it is written, and what a time has that is made of a line's.
-use Rattle.std.proofs.Common.{refl, ◌≡◌, ◌+◌, ◌≤◌, ◌<◌, ◌++◌, ◌^◌, ℕ, ℤ, pos, Bool, true, false, List, length, length-append, arith, cond, ap, ◌∙◌, decimal, unsigned_abs, nat_lt, if◌then◌else◌, Result, Ok, Err}
+use Rattle.std.proofs.Common.{refl, ◌≡◌, ◌≢◌, ◌+◌, ◌≤◌, ◌<◌, ◌++◌, ◌^◌, ℕ, ℤ, pos, Bool, true, false, List, length, length-append, arith, cond, ap, ◌∙◌, decimal, append_assoc, [], ◌∷◌, unsigned_abs, nat_lt, if◌then◌else◌, Result, Ok, Err}
 use Rattle.std.proofs.lemmas.Fmt.{length-decimal-le}
 use Rattle.gix_date.specs.Text.Numbers.{two_digits}
 use Rattle.gix_date.specs.declared.time.Time.{Time}
@@ -7,7 +7,14 @@ use Rattle.std.specs.Int.Signed.{lt_z}
 use Rattle.gix_signature.specs.Ident.Times.{time_of_git, minutes_told, widest_minutes}
 use Rattle.gix_signature.specs.declared.error.IdentFault.{IdentFault}
 use Rattle.gix_signature.specs.declared.ident.time.GitTime.{GitTime}
-use Rattle.git_date.specs.Show.OwnDates.{digits_from_two, short_decimals, written_offset_text, hours_written, minutes_written}
+use Rattle.gix_date.specs.Fields.FieldTexts.{four_digits, clock_text}
+use Rattle.gix_date.specs.Fields.Layout.{LocalTime, print_pieces}
+use Rattle.gix_date.specs.Text.Characters.{comma, space}
+use Rattle.gix_date.specs.Text.Names.{day_name, month_name}
+use Rattle.git_date.specs.Show.Clocks.{Moment}
+use Rattle.git_date.specs.Show.OwnDates.{digits_from_two, short_decimals, written_offset_text, hours_written, minutes_written, is_without_offset, own_clock_shown, own_date_shown_by, rfc2822_front, before_day, then_month}
+use Rattle.git_date.specs.declared.mode.DateKind.{DateKind}
+use Rattle.git_date.specs.declared.mode.DateKind.TheVariants.{Relative, Human, Raw, Unix}
 
 chosen : (b : Bool) (n k : ℕ) → 2 ≤ k → length (decimal n) ≤ k → length (if b then two_digits n else decimal n) ≤ k
 chosen true n k h d = h
@@ -43,3 +50,21 @@ made_seconds g t e h = ap (λ (s : ℤ). lt_z s (pos 0)) (made g t e).1 ∙ h
 
 pub made_short : (g : GitTime) (t : Time) → Ok t ≡ time_of_git g → unsigned_abs g.offset < short_decimals
 made_short g t e = omega (arith, (made g t e).0)
+
+-- the kinds that show a line's clock and nothing else
+pub by_clock : (kind : DateKind) (now : Moment) (t : GitTime) → is_without_offset kind ≡ false → kind ≢ Human → kind ≢ Raw
+    → own_date_shown_by kind now t ≡ own_clock_shown kind t
+by_clock Relative now t w nh nr = cc
+by_clock Human now t w nh nr = absurd (nh refl)
+by_clock Raw now t w nh nr = absurd (nr refl)
+by_clock Unix now t w nh nr = cc
+by_clock kind now t w nh nr = refl
+
+-- what was appended piece by piece was appended at once
+joined : (x name day month year clock : List ℕ) → ((((x ++ name) ++ day) ++ month) ++ year) ++ clock ≡ x ++ (name ++ (day ++ (month ++ (year ++ clock))))
+joined x name day month year clock = simp append_assoc
+
+pub front_is : (x : List ℕ) (t : LocalTime) → then_month ((x ++ before_day t) ++ decimal t.date.day) t ≡ x ++ print_pieces decimal rfc2822_front t
+unfolding then_month before_day
+front_is x t =
+    joined x (day_name t.weekday ++ comma ∷ space ∷ []) (decimal t.date.day) (space ∷ month_name t.date.month) (space ∷ four_digits t.date.year) (space ∷ clock_text t.clock)

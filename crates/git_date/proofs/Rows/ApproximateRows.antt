@@ -8,7 +8,7 @@ use Rattle.git_date.specs.Approximate.Expiry.{fixed_expiry}
 use Rattle.git_date.specs.Exact.Computing.{computing}
 use Rattle.git_date.specs.Exact.Zones.{one_offset}
 use Rattle.git_date.specs.Tokens.Strings.{nul, before_nul}
-use Rattle.git_date.specs.declared.approximate.answer.Approximate.{Approximate}
+use Rattle.git_date.specs.declared.approximate.Approximate.{Approximate}
 use Rattle.git_date.specs.declared.approximate.expiry.Expiry.TheVariants.{Never, All}
 use Rattle.git_date.proofs.Rows.RowMoment.{row_now}
 use Rattle.git_date.specs.declared.error.DateError.{DateError}

@@ -8,7 +8,7 @@ use Rattle.git_date.specs.Approximate.Reading.{guess}
 use Rattle.git_date.specs.Approximate.Computing.{approximating}
 use Rattle.git_date.specs.Exact.Computing.{computing}
 use Rattle.git_date.specs.Exact.Zones.{States}
-use Rattle.git_date.specs.declared.approximate.answer.Approximate.{Approximate}
+use Rattle.git_date.specs.declared.approximate.Approximate.{Approximate}
 use Rattle.git_date.specs.declared.error.DateError.{DateError}
 use Rattle.git_date.specs.declared.fields.dates.Now.{Now}
 use Rattle.gix_date.specs.declared.time.Time.{Time}

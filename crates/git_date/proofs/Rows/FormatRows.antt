@@ -13,7 +13,7 @@ use Rattle.git_date.specs.Formats.Format.{shown_by_format}
 use Rattle.git_date.specs.Formats.Numbers.{year_day, iso_day}
 use Rattle.git_date.specs.Formats.Pieces.{checked, pieces, pieces_in, next_piece, made_at}
 use Rattle.git_date.specs.Formats.Shown.{own_shown, zone_shown}
-use Rattle.git_date.specs.declared.format.fault.FormatFault.TheVariants.{FlagRefused, UnknownDirective, WidthTooLarge}
+use Rattle.git_date.specs.declared.format.error.FormatFault.TheVariants.{FlagRefused, UnknownDirective, WidthTooLarge}
 
 -- what a format shows at +0200
 abbrev shows : String → Option (List ℕ)

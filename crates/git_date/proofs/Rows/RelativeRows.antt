@@ -8,7 +8,7 @@ use Rattle.git_date.specs.Approximate.Computing.{approximating}
 use Rattle.git_date.specs.Exact.Computing.{computing}
 use Rattle.git_date.specs.Exact.Zones.{one_offset}
 use Rattle.git_date.specs.Show.Ages.{age_between, age_of, age_of_days, relative_text}
-use Rattle.git_date.specs.declared.approximate.answer.Approximate.{Approximate}
+use Rattle.git_date.specs.declared.approximate.Approximate.{Approximate}
 use Rattle.git_date.specs.declared.error.DateError.{DateError}
 use Rattle.git_date.proofs.Rows.RowMoment.{row_now}
 

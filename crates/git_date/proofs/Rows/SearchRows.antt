@@ -1,6 +1,6 @@
 -- Git's search in zones that are written out: each row computes.
 use Rattle.std.proofs.Common.{◌≡◌, refl, List, [], ◌∷◌, ℕ, ℤ, pos, neg_ℤ, Bool, true, false, cond, int_lt, map, Option, Some, None}
-use Rattle.git_date.specs.Exact.Zones.{States, one_offset, nearest, searched, found_offset}
+use Rattle.git_date.specs.Exact.Zones.{States, one_offset, nearest, flagged_at, searched, found_offset}
 use Rattle.git_date.specs.declared.zones.ZoneState.{ZoneState}
 
 abbrev behind : ℕ → ℤ
@@ -41,23 +41,23 @@ changes :
     ∷ (1699147800, Some false, behind 18000, Some (behind 18000))
     ∷ (1699147800, Some false, behind 14400, Some (behind 18000))
     ∷ (1699147800, Some true, behind 18000, Some (behind 14400)) ∷ [])
-unfolding found_offset searched nearest
+unfolding found_offset searched nearest flagged_at
 changes = refl
 
 -- noon in July, with the flag of winter: an hour later than the clock
 other_half : Finds new_york ((1688212800, Some false, behind 18000, Some (behind 18000)) ∷ (1688212800, Some true, behind 18000, Some (behind 14400)) ∷ [])
-unfolding found_offset searched nearest
+unfolding found_offset searched nearest flagged_at
 other_half = refl
 
 -- no flag changes: the search stops as soon as it comes back
 alike : Finds (changing ((pos 1514764800, standard (pos 0)) ∷ []) (standard (pos 3600)))
     ((1514766600, None, pos 0, Some (pos 0)) ∷ (1514766600, None, pos 3600, Some (pos 3600)) ∷ [])
-unfolding found_offset searched nearest
+unfolding found_offset searched nearest flagged_at
 alike = refl
 
 -- a zone that never has the flag: an hour off
 no_flag : Finds (one_offset (pos 3600)) ((1688212800, Some true, pos 0, Some (pos 7200)) ∷ (1688212800, Some false, pos 0, Some (pos 3600)) ∷ [])
-unfolding found_offset searched nearest
+unfolding found_offset searched nearest flagged_at
 no_flag = refl
 
 -- Hour after hour the clock goes back by an hour: Git looks at six instants.
@@ -66,11 +66,11 @@ falling =
     (pos 978337800, standard (pos 18000)) ∷ (pos 978341400, standard (pos 14400)) ∷ (pos 978345000, standard (pos 10800)) ∷ (pos 978348600, standard (pos 7200)) ∷ []
 
 four_hours : Finds (changing falling (standard (pos 3600))) ((978350400, None, pos 0, Some (pos 18000)) ∷ (978350400, None, pos 10800, Some (pos 18000)) ∷ [])
-unfolding found_offset searched nearest
+unfolding found_offset searched nearest flagged_at
 four_hours = refl
 
 five_hours : Finds (changing ((pos 978334200, standard (pos 21600)) ∷ falling) (standard (pos 3600))) ((978350400, None, pos 0, None) ∷ [])
-unfolding found_offset searched nearest
+unfolding found_offset searched nearest flagged_at
 five_hours = refl
 
 -- of two times with a flag at one distance that before counts
@@ -79,5 +79,5 @@ summers = changing ((pos 1000000000, summer (pos 7200)) ∷ (pos 1000600000, sta
 
 distances : nearest 0 summers true (pos 1000300000) ∷ nearest 1 summers true (pos 1000300000) ∷ nearest 2 (one_offset (pos 0)) true (pos 1000300000) ∷ []
     ≡ None ∷ Some (pos 7200) ∷ None ∷ []
-unfolding nearest
+unfolding nearest flagged_at
 distances = refl

@@ -20,7 +20,7 @@ use Rattle.gix_date.specs.Fields.Layout.{LocalTime, LocalDate, LocalClock}
 use Rattle.gix_date.specs.Fields.Zoned.{is_instant, last_second}
 use Rattle.gix_date.specs.Printing.LocalClocks.{clock_of, last_of_year_9999}
 use Rattle.gix_date.specs.Printing.NamedTexts.{local_time}
-use Rattle.git_date.specs.Approximate.Clocks.{is_shown, is_shown_month, shown_at, first_second, filled_seconds}
+use Rattle.git_date.specs.Approximate.Clocks.{is_shown, is_shown_month, clock_shown_at, first_second, filled_seconds}
 use Rattle.git_date.specs.Rules.Clocks.{first_of_year_1900}
 use Rattle.git_date.specs.Approximate.Drafts.{clock_fields, all_fields}
 use Rattle.git_date.specs.Rules.Dates.{first_of, is_month, seconds_after}
@@ -166,8 +166,8 @@ same-fields c = rw (not-before c.date.month) refl
 pub filled-today : (x : ℤ) → IsClockBack x → filled_seconds (shown_of x) (clock_fields (shown_of x)) ≡ Some x
 filled-today x h = same-fields (shown_of x) ∙ filled-back x (shown_of x) h
 
-pub shown-back : (x : ℤ) → IsClockBack x → shown_at x ≡ Some (shown_of x)
-unfolding shown_at
+pub shown-back : (x : ℤ) → IsClockBack x → clock_shown_at x ≡ Some (shown_of x)
+unfolding clock_shown_at
 shown-back x h =
     let is : is_shown x ≡ true = join _ _ (z_holds first_of_year_1900 x h.0) (z_holds x last_of_year_9999 (omega (arith, signed_arith, h.1))) in
     ap (λ (b : Bool). cond b (Some (shown_of x)) None) is

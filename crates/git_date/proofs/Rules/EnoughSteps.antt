@@ -5,7 +5,7 @@ use Rattle.git_date.specs.Tokens.Tokens.{Token, Letters, Digits, Mark, letter_be
 use Rattle.git_date.specs.Rules.Digits.{Stepped}
 use Rattle.git_date.specs.Exact.Reading.{read_on, rule, steps}
 use Rattle.git_date.specs.declared.fields.dates.Now.{Now}
-use Rattle.git_date.specs.declared.fault.Fault.{Fault}
+use Rattle.git_date.specs.declared.error.Fault.{Fault}
 use Rattle.git_date.specs.declared.fields.Fields.{Fields}
 use Rattle.git_date.specs.declared.reader.Reading.{Reading}
 use Rattle.git_date.proofs.Rules.Kept.{IsKept, Leaves, IsTokenAt, rule-left}

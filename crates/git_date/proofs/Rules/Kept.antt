@@ -18,8 +18,8 @@ use Rattle.git_date.specs.Rules.Groups.{ReadTokens, marked_number, is_group_mark
 use Rattle.git_date.specs.Rules.Offsets.{is_white, without_white, white, padded_after, padded_number, minutes_said, colon_minutes, two_digit_offset, SaidOffset, offset_said, with_offset}
 use Rattle.git_date.specs.Rules.Words.{without_ending, is_ending}
 use Rattle.git_date.specs.Exact.Reading.{read_on, ended, sign_rule, rule, steps}
-use Rattle.git_date.specs.declared.fault.Fault.{Fault}
-use Rattle.git_date.specs.declared.fault.Fault.TheVariants.{NumberTooLarge, BackTooFar, YearRefused, Range}
+use Rattle.git_date.specs.declared.error.Fault.{Fault}
+use Rattle.git_date.specs.declared.error.Fault.TheVariants.{NumberTooLarge, BackTooFar, YearRefused, Range}
 use Rattle.git_date.specs.declared.fields.Fields.{Fields}
 use Rattle.git_date.specs.declared.fields.dates.Dated.{Dated}
 use Rattle.git_date.specs.declared.fields.dates.Dated.TheVariants as dated

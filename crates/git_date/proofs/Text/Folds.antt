@@ -7,10 +7,10 @@ use Rattle.git_date.specs.Tokens.Tokens.{Token, tokens, bytes_left, texts, is_en
 use Rattle.git_date.specs.Rules.Digits.{Stepped}
 use Rattle.git_date.specs.Exact.Reading.{read_on, rule}
 use Rattle.git_date.specs.Exact.Reading as exact
-use Rattle.git_date.specs.declared.approximate.answer.Today.{Today}
+use Rattle.git_date.specs.declared.approximate.Today.{Today}
 use Rattle.git_date.specs.declared.approximate.drafts.Draft.{Draft}
 use Rattle.git_date.specs.declared.fields.dates.Now.{Now}
-use Rattle.git_date.specs.declared.fault.Fault.{Fault}
+use Rattle.git_date.specs.declared.error.Fault.{Fault}
 use Rattle.git_date.specs.declared.fields.Fields.{Fields}
 use Rattle.git_date.specs.declared.reader.Reading.{Reading}
 use Rattle.git_date.proofs.Text.TokenRuns.{texts_are}
@@ -76,12 +76,12 @@ step-next now rest after further r next t e on is go =
 
 -- steps of the approximate reader
 abbrev draft_step : States → Today → Step Draft
-draft_step zone today d t more go = approximate.step zone today d t more go
+draft_step zone today d t more go = approximate.approximate_step zone today d t more go
 
-pub draft-refused : (zone : States) (today : Today) (d : Draft) (t : Token) (more : List Token) (fault : Fault) → Err fault ≡ approximate.rule zone today d t more
+pub draft-refused : (zone : States) (today : Today) (d : Draft) (t : Token) (more : List Token) (fault : Fault) → Err fault ≡ approximate.approximate_rule zone today d t more
     → (go : Go Draft) → draft_step zone today d t more go ≡ Err fault
 draft-refused zone today d t more fault is go = ap (λ (s : Read). and_then s (λ next. go next.0 next.1)) (sym is)
 
-pub draft-next : (zone : States) (today : Today) (d next : Draft) (t : Token) (more rest : List Token) → Ok (next, rest) ≡ approximate.rule zone today d t more
+pub draft-next : (zone : States) (today : Today) (d next : Draft) (t : Token) (more rest : List Token) → Ok (next, rest) ≡ approximate.approximate_rule zone today d t more
     → (go : Go Draft) → draft_step zone today d t more go ≡ go next rest
 draft-next zone today d next t more rest is go = ap (λ (s : Read). and_then s (λ next. go next.0 next.1)) (sym is)

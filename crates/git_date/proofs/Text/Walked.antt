@@ -1,7 +1,7 @@
 -- Walks over tokens that are over: nothing is left to walk over.
 use Rattle.std.proofs.Common.{◌≡◌, ℕ, zero, suc, List, [], refl, Result, Ok}
 use Rattle.git_date.specs.Tokens.Tokens.{Token, walked}
-use Rattle.git_date.specs.declared.fault.Fault.{Fault}
+use Rattle.git_date.specs.declared.error.Fault.{Fault}
 
 abbrev pub Go : Type 0 → Type 0
 Go S = S → List Token → Result S Fault

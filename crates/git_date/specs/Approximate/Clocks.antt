@@ -16,8 +16,8 @@ abbrev pub is_shown : ℤ → Bool
 is_shown seconds = le_z first_of_year_1900 seconds && le_z seconds last_of_year_9999
 
 -- what a clock shows that has counted so many seconds since 1970-01-01 00:00:00
-unfoldable pub shown_at : ℤ → Option LocalTime
-shown_at seconds = if is_shown seconds then Some (clock_of (utc_time seconds)) else None
+unfoldable pub clock_shown_at : ℤ → Option LocalTime
+clock_shown_at seconds = if is_shown seconds then Some (clock_of (utc_time seconds)) else None
 
 -- a month of the years from 1900 to 9999
 abbrev pub is_shown_month : ℕ → ℕ → Bool

@@ -8,7 +8,7 @@ use Rattle.git_date.specs.Rules.Fields.{unknown}
 use Rattle.git_date.specs.Tokens.Numbers.{max_number}
 use Rattle.git_date.specs.declared.approximate.drafts.Draft.{Draft}
 use Rattle.git_date.specs.declared.approximate.drafts.LastShown.{LastShown}
-use Rattle.git_date.specs.declared.approximate.shown.ZoneClock.{ZoneClock}
+use Rattle.git_date.specs.declared.approximate.zone.ZoneClock.{ZoneClock}
 use Rattle.git_date.specs.declared.fields.Fields.{Fields}
 use Rattle.git_date.specs.declared.fields.groups.Number.{Number}
 use Rattle.gix_date.specs.Fields.Layout.{LocalTime}

@@ -4,7 +4,7 @@ use Rattle.jiff.specs.declared.zoned.Zoned.{Zoned}
 use Rattle.git_date.specs.Approximate.Reading.{approximate, HasApproximatePlacesIn}
 use Rattle.git_date.specs.Exact.Outcome.{IsErrorIn}
 use Rattle.git_date.specs.Tokens.Strings.{before_nul}
-use Rattle.git_date.specs.declared.approximate.answer.Approximate.{Approximate}
+use Rattle.git_date.specs.declared.approximate.Approximate.{Approximate}
 use Rattle.git_date.specs.declared.approximate.expiry.Expiry.{Expiry}
 use Rattle.git_date.specs.declared.approximate.expiry.Expiry.TheVariants.{Never, All, Before}
 use Rattle.git_date.specs.declared.error.DateError.{DateError}

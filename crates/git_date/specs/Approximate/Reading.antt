@@ -7,7 +7,7 @@ use Rattle.jiff.specs.declared.zoned.Zoned.{Zoned}
 use Rattle.gix_date.specs.Relative.Steps.{zone_of}
 use Rattle.gix_date.specs.declared.time.Time.{Time}
 use Rattle.git_date.specs.Approximate.Drafts.{first_draft, settle}
-use Rattle.git_date.specs.Approximate.Rules.{letters_rule, digits_rule}
+use Rattle.git_date.specs.Approximate.Rules.{approximate_letters_rule, approximate_digits_rule}
 use Rattle.git_date.specs.Approximate.Zones.{shown_in, filled_time}
 use Rattle.git_date.specs.Exact.Zones.{States, states_of}
 use Rattle.git_date.specs.Rules.Dates.{now_of}
@@ -16,35 +16,35 @@ use Rattle.git_date.specs.Exact.Reading.{place_in, error_of, ended}
 use Rattle.git_date.specs.Tokens.Steps.{and_then}
 use Rattle.git_date.specs.Tokens.Strings.{nul_place, before_nul}
 use Rattle.git_date.specs.Tokens.Tokens.{Token, Letters, Digits, Mark, tokens, walked}
-use Rattle.git_date.specs.declared.approximate.answer.Approximate.{Approximate}
-use Rattle.git_date.specs.declared.approximate.answer.Today.{Today}
+use Rattle.git_date.specs.declared.approximate.Approximate.{Approximate}
+use Rattle.git_date.specs.declared.approximate.Today.{Today}
 use Rattle.git_date.specs.declared.approximate.drafts.Draft.{Draft}
-use Rattle.git_date.specs.declared.approximate.shown.ZoneClock.{ZoneClock}
-use Rattle.git_date.specs.declared.date.ReadDate.{ReadDate}
+use Rattle.git_date.specs.declared.approximate.zone.ZoneClock.{ZoneClock}
+use Rattle.git_date.specs.declared.reader.ReadDate.{ReadDate}
 use Rattle.git_date.specs.declared.fields.dates.Now.{Now}
 use Rattle.git_date.specs.declared.error.DateError.{DateError}
 use Rattle.git_date.specs.declared.error.DateError.TheVariants.{Unreadable, Range}
-use Rattle.git_date.specs.declared.fault.Fault.{Fault}
+use Rattle.git_date.specs.declared.error.Fault.{Fault}
 
 -- a draft, and the tokens that are left to read
 abbrev pub Read : Type 0
 Read = Result (Draft × List Token) Fault
 
 -- the rule of a token: marks say nothing
-abbrev pub rule : States → Today → Draft → Token → List Token → Read
-rule zone today d (Letters run) more = and_then (letters_rule zone today.shown.clock d run more) (λ next. Ok (next, more))
-rule zone today d (Digits run) more = ended (digits_rule today.now d run more)
-rule zone today d (Mark byte) more = Ok (d, more)
+abbrev pub approximate_rule : States → Today → Draft → Token → List Token → Read
+approximate_rule zone today d (Letters run) more = and_then (approximate_letters_rule zone today.shown.clock d run more) (λ next. Ok (next, more))
+approximate_rule zone today d (Digits run) more = ended (approximate_digits_rule today.now d run more)
+approximate_rule zone today d (Mark byte) more = Ok (d, more)
 
-abbrev pub step : States → Today → Draft → Token → List Token → (Draft → List Token → Result Draft Fault) → Result Draft Fault
-step zone today d t more go = and_then (rule zone today d t more) (λ next. go next.0 next.1)
+abbrev pub approximate_step : States → Today → Draft → Token → List Token → (Draft → List Token → Result Draft Fault) → Result Draft Fault
+approximate_step zone today d t more go = and_then (approximate_rule zone today d t more) (λ next. go next.0 next.1)
 
-abbrev pub steps : States → Today → ℕ → Draft → List Token → Result Draft Fault
-steps zone today n d ts = walked (step zone today) n d ts
+abbrev pub approximate_steps : States → Today → ℕ → Draft → List Token → Result Draft Fault
+approximate_steps zone today n d ts = walked (approximate_step zone today) n d ts
 
 -- what the tokens of a text say, one after the other: it has no more of them than bytes
 unfoldable pub draft_of : States → Today → List ℕ → Result Draft Fault
-draft_of zone today text = steps zone today (length text) (first_draft today.shown) (tokens text)
+draft_of zone today text = approximate_steps zone today (length text) (first_draft today.shown) (tokens text)
 
 -- the answer is the time at which the zone's clock shows the draft; Git has none before 1970
 abbrev pub answer : List ℕ → Draft → Option Time → Result Approximate DateError

@@ -19,8 +19,8 @@ use Rattle.git_date.specs.declared.approximate.meanings.Meaning.TheVariants as m
 use Rattle.git_date.specs.declared.approximate.meanings.Unit.{Unit}
 use Rattle.git_date.specs.declared.approximate.meanings.Unit.TheVariants.{Seconds, Weekday, Months}
 use Rattle.git_date.specs.declared.fields.dates.Now.{Now}
-use Rattle.git_date.specs.declared.fault.Fault.{Fault}
-use Rattle.git_date.specs.declared.fault.Fault.TheVariants.{NumberTooLarge, BackTooFar}
+use Rattle.git_date.specs.declared.error.Fault.{Fault}
+use Rattle.git_date.specs.declared.error.Fault.TheVariants.{NumberTooLarge, BackTooFar}
 use Rattle.git_date.specs.declared.fields.Fields.{Fields}
 use Rattle.git_date.specs.declared.fields.groups.Number.{Number}
 use Rattle.gix_date.specs.Fields.Layout.{LocalTime}
@@ -102,8 +102,8 @@ are_digits_next (Digits run ∷ more) = true
 are_digits_next more = false
 
 -- letters: no word that has a digit is known
-unfoldable pub letters_rule : States → LocalTime → Draft → List ℕ → List Token → Result Draft Fault
-letters_rule zone today d run more =
+unfoldable pub approximate_letters_rule : States → LocalTime → Draft → List ℕ → List Token → Result Draft Fault
+approximate_letters_rule zone today d run more =
     let left = bytes_left (Letters run ∷ more) in
     if are_digits_next more then Ok (ignore d left)
     else read_word d run left (word_by zone today d left (meaning_of run))
@@ -125,8 +125,8 @@ group_or_number d run more (Some found) = (record d { fields = found.0 }, found.
 group_or_number d run more None = (number_waits d run (bytes_left (Digits run ∷ more)), more)
 
 -- digits: the number that waited is settled; then a group is taken, or this number waits
-unfoldable pub digits_rule : Now → Draft → List ℕ → List Token → Result (Draft × List Token) Fault
-digits_rule now d run more =
+unfoldable pub approximate_digits_rule : Now → Draft → List ℕ → List Token → Result (Draft × List Token) Fault
+approximate_digits_rule now d run more =
     let ready = understood (settle d) in
     if is_too_large (number run) then Err (NumberTooLarge (bytes_left (Digits run ∷ more)))
     else (group_said now ready.fields run more >>= λ said. Ok (group_or_number ready run more said))

@@ -12,7 +12,7 @@ use Rattle.git_date.specs.Rules.Dates.{now_at}
 use Rattle.git_date.specs.Exact.Reading.{said_by}
 use Rattle.git_date.specs.Exact.Zones.{States, states_of, before_leap, found_offset}
 use Rattle.git_date.specs.declared.reader.Said.{Said}
-use Rattle.git_date.specs.declared.date.ReadDate.{ReadDate}
+use Rattle.git_date.specs.declared.reader.ReadDate.{ReadDate}
 use Rattle.git_date.specs.declared.error.DateError.{DateError}
 use Rattle.git_date.specs.declared.error.DateError.TheVariants.{Unreadable, NumberTooLarge, BackTooFar, YearRefused, Range}
 

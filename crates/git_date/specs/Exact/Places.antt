@@ -13,10 +13,10 @@ use Rattle.jiff_tz.specs.Tzif.{tzif_view, IsParseFailure, IsRefused}
 use Rattle.jiff_tz.specs.TzifReader.{header_at, read_tzif}
 use Rattle.jiff_tz.specs.declared.tzif.Tzif.{Tzif}
 use Rattle.git_date.specs.Rules.Groups.{slash}
-use Rattle.git_date.specs.declared.zones.places.TheConstants.{MACHINE_ZONE, MAX_DATELESS, US_DATES, ZONE_FOLDER}
-use Rattle.git_date.specs.declared.zones.tables.TheConstants.{HEADER_LEN}
-use Rattle.git_date.specs.declared.zones.tables.TableError.{TableError}
-use Rattle.git_date.specs.declared.zones.tables.TableError.TheVariants.{OutOfMemory, NotTzif, CountsLeapSeconds}
+use Rattle.git_date.specs.declared.zones.texts.TheConstants.{MACHINE_ZONE, MAX_DATELESS, US_DATES, ZONE_FOLDER}
+use Rattle.git_date.specs.declared.zones.texts.TheConstants.{HEADER_LEN}
+use Rattle.git_date.specs.declared.zones.texts.TableError.{TableError}
+use Rattle.git_date.specs.declared.zones.texts.TableError.TheVariants.{OutOfMemory, NotTzif, CountsLeapSeconds}
 
 -- a colon in front of a value of `TZ` says nothing
 abbrev pub without_colon : List ℕ → List ℕ

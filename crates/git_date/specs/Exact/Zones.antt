@@ -61,7 +61,7 @@ abbrev pub flag_steps : ℕ
 flag_steps = 381
 
 -- the offset of a time with this flag at a distance from an instant: that before the instant comes first
-abbrev pub flagged_at : States → Bool → ℤ → ℤ → Option ℤ
+unfoldable pub flagged_at : States → Bool → ℤ → ℤ → Option ℤ
 flagged_at zone flag instant distance = option_or (flagged flag (zone (instant -ℤ distance))) (flagged flag (zone (instant +ℤ distance)))
 
 -- the offset of the nearest time with this flag, within so many steps

@@ -4,8 +4,8 @@ use Rattle.std.specs.Option.{option_or}
 use Rattle.std.specs.Str.{bytes_eq}
 use Rattle.git_date.specs.declared.format.directives.Name.{Name}
 use Rattle.git_date.specs.declared.format.directives.Name.TheVariants.{ShortDay, LongDay, ShortMonth, LongMonth, HalfDay, SmallHalfDay, LineFeed, Tab}
-use Rattle.git_date.specs.declared.format.directives.Number.{Number}
-use Rattle.git_date.specs.declared.format.directives.Number.TheVariants.{Century, YearOfCentury, Year, Month, Day, SpacedDay, DayOfYear, Hour, SpacedHour, HourOfHalf, SpacedHourOfHalf, Minute, Second, DayFromMonday, DayFromSunday, WeekFromSunday, WeekFromMonday, IsoWeek, IsoYear, IsoYearOfCentury}
+use Rattle.git_date.specs.declared.format.numbers.Number.{Number}
+use Rattle.git_date.specs.declared.format.numbers.Number.TheVariants.{Century, YearOfCentury, Year, Month, Day, SpacedDay, DayOfYear, Hour, SpacedHour, HourOfHalf, SpacedHourOfHalf, Minute, Second, DayFromMonday, DayFromSunday, WeekFromSunday, WeekFromMonday, IsoWeek, IsoYear, IsoYearOfCentury}
 use Rattle.git_date.specs.declared.format.directives.Composite.{Composite}
 use Rattle.git_date.specs.declared.format.directives.Composite.TheVariants.{DateAndClock, SlashedDate, IsoDate, ClockOfHalf, ShortClock, Clock}
 use Rattle.git_date.specs.declared.format.directives.Directive.{Directive}

@@ -41,9 +41,9 @@ piece_text shown (Begun (made.Plain plain)) = plain_text shown plain
 piece_text shown (Begun (made.Directive directive flags)) = directive_text directive flags shown.clock
 
 -- one after the other
-abbrev pub texts : Shown → List Piece → List ℕ
-texts shown [] = []
-texts shown (piece ∷ more) = piece_text shown piece ++ texts shown more
+abbrev pub pieces_text : Shown → List Piece → List ℕ
+pieces_text shown [] = []
+pieces_text shown (piece ∷ more) = piece_text shown piece ++ pieces_text shown more
 
 -- a part of the text, lent or made
 abbrev pub chunk_text : Chunk → List ℕ
@@ -60,7 +60,7 @@ asks_seconds pieces = list_any is_seconds pieces
 
 -- the texts of the pieces, if Git knows the seconds that they ask for
 abbrev pub shown_pieces : List Piece → Shown → Option (List ℕ)
-shown_pieces pieces shown = if is_none shown.seconds && asks_seconds pieces then None else Some (texts shown pieces)
+shown_pieces pieces shown = if is_none shown.seconds && asks_seconds pieces then None else Some (pieces_text shown pieces)
 
 -- What a format without fault shows of a time: by the zone's clock, or by the time's own. `None` where that clock shows nothing, and
 -- where the seconds are asked of a year that Git does not know.

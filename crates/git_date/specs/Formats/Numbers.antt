@@ -2,8 +2,8 @@
 use Rattle.std.specs.Prelude.{ℕ, ◌+◌, ◌-◌, ◌/◌, ◌%◌, Bool, true, false, nat_lt, nat_le, pos, if◌then◌else◌}
 use Rattle.jiff_core.specs.Calendar.{day_of_year, days_in_year}
 use Rattle.gix_date.specs.Fields.Layout.{LocalTime}
-use Rattle.git_date.specs.declared.format.directives.Number.{Number}
-use Rattle.git_date.specs.declared.format.directives.Number.TheVariants.{Century, YearOfCentury, Year, Month, Day, SpacedDay, DayOfYear, Hour, SpacedHour, HourOfHalf, SpacedHourOfHalf, Minute, Second, DayFromMonday, DayFromSunday, WeekFromSunday, WeekFromMonday, IsoWeek, IsoYear, IsoYearOfCentury}
+use Rattle.git_date.specs.declared.format.numbers.Number.{Number}
+use Rattle.git_date.specs.declared.format.numbers.Number.TheVariants.{Century, YearOfCentury, Year, Month, Day, SpacedDay, DayOfYear, Hour, SpacedHour, HourOfHalf, SpacedHourOfHalf, Minute, Second, DayFromMonday, DayFromSunday, WeekFromSunday, WeekFromMonday, IsoWeek, IsoYear, IsoYearOfCentury}
 use Rattle.git_date.specs.declared.format.numbers.IsoDay.{IsoDay as TheIsoDay}
 
 abbrev pub year_days : ℕ → ℕ

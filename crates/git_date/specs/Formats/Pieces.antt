@@ -4,8 +4,8 @@ use Rattle.std.specs.Char.{is_ascii_digit}
 use Rattle.std.specs.List.{prefix_len, position_or_len, slice_get}
 use Rattle.std.specs.Result.{result_map_both, result_unwrap_or, result_err, is_ok}
 use Rattle.std.specs.Borrow.{Bor}
-use Rattle.git_date.specs.declared.format.fault.FormatFault.{FormatFault}
-use Rattle.git_date.specs.declared.format.fault.FormatFault.TheVariants.{FlagRefused, UnknownDirective, WidthTooLarge}
+use Rattle.git_date.specs.declared.format.error.FormatFault.{FormatFault}
+use Rattle.git_date.specs.declared.format.error.FormatFault.TheVariants.{FlagRefused, UnknownDirective, WidthTooLarge}
 use Rattle.git_date.specs.declared.format.directives.Directive.{Directive}
 use Rattle.git_date.specs.declared.format.directives.Plain.{Plain}
 use Rattle.git_date.specs.declared.format.pieces.Made.{Made as TheMade}

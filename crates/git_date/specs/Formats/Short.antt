@@ -1,7 +1,7 @@
 -- Texts of at most 255 bytes, by one walk over a format.
 use Rattle.std.specs.Prelude.{◌≡◌, ℕ, ◌<◌, List, [], ◌++◌, length, Bool, true, false, ◌||◌, if◌then◌else◌, Option, Some, None, option_map, Result, Ok, Err}
 use Rattle.std.specs.Char.{is_ascii_digit}
-use Rattle.git_date.specs.declared.format.fault.FormatFault.{FormatFault}
+use Rattle.git_date.specs.declared.format.error.FormatFault.{FormatFault}
 use Rattle.git_date.specs.Formats.Flags.{is_flag}
 use Rattle.git_date.specs.Formats.Format.{piece_text}
 use Rattle.git_date.specs.Formats.Pieces.{Made, Piece, Begun, made_by, next_piece}

@@ -2,10 +2,11 @@
 use Rattle.std.specs.Prelude.{ℕ, max, Bool, true, false, not, List, [], ◌∷◌, ◌++◌, decimal}
 use Rattle.gix_date.specs.Fields.Layout.{LocalTime}
 use Rattle.gix_date.specs.Text.Characters.{space, colon, minus}
+use Rattle.git_date.specs.Rules.Groups.{slash}
 use Rattle.git_date.specs.declared.format.directives.Name.{Name}
 use Rattle.git_date.specs.declared.format.directives.Name.TheVariants.{ShortDay, ShortMonth, HalfDay}
-use Rattle.git_date.specs.declared.format.directives.Number.{Number}
-use Rattle.git_date.specs.declared.format.directives.Number.TheVariants.{YearOfCentury, Year, Month, Day, SpacedDay, Hour, HourOfHalf, Minute, Second}
+use Rattle.git_date.specs.declared.format.numbers.Number.{Number}
+use Rattle.git_date.specs.declared.format.numbers.Number.TheVariants.{YearOfCentury, Year, Month, Day, SpacedDay, Hour, HourOfHalf, Minute, Second}
 use Rattle.git_date.specs.declared.format.directives.Composite.{Composite}
 use Rattle.git_date.specs.declared.format.directives.Composite.TheVariants as composite
 use Rattle.git_date.specs.declared.format.directives.Directive.{Directive}
@@ -21,10 +22,6 @@ use Rattle.git_date.specs.Formats.Flags.{filled, fill_of, inner_flags}
 use Rattle.git_date.specs.Formats.Names.{name_text, case_of, cased}
 use Rattle.git_date.specs.Formats.Numbers.{number_value, number_least, is_spaced}
 
--- `/`
-abbrev pub slash : ℕ
-slash = 47
-
 -- the name rule: a name in its letter case, filled to the width
 abbrev pub name_said : Name → Flags → LocalTime → List ℕ
 name_said name flags t = filled (fill_of flags.pad) flags.width (cased (case_of name flags) (name_text name t))
@@ -35,7 +32,7 @@ width_by Bare least width = width
 width_by _ least width = max least width
 
 abbrev pub number_width : Number → Flags → ℕ
-number_width number flags = width_by flags.pad (number_least number) flags.width
+number_width number_inner flags = width_by flags.pad (number_least number_inner) flags.width
 
 -- with zeros, but spaces for `_` and `-`, and by itself for the letters that are spaced
 abbrev pub zeros_by : Pad → Bool → Bool
@@ -45,10 +42,10 @@ zeros_by Zeros spaced = true
 zeros_by Unsaid spaced = not spaced
 
 abbrev pub number_zeros : Number → Flags → Bool
-number_zeros number flags = zeros_by flags.pad (is_spaced number)
+number_zeros number_inner flags = zeros_by flags.pad (is_spaced number_inner)
 
 abbrev pub number_text : Number → Flags → LocalTime → List ℕ
-number_text number flags t = filled (number_zeros number flags) (number_width number flags) (decimal (number_value number t))
+number_text number_inner flags t = filled (number_zeros number_inner flags) (number_width number_inner flags) (decimal (number_value number_inner t))
 
 -- the marks of composites
 abbrev pub mark_code : Mark → ℕ
@@ -57,8 +54,8 @@ mark_code mark.Colon = colon
 mark_code mark.Minus = minus
 mark_code mark.Slash = slash
 
-abbrev pub number : Number → Inner
-number n = inner.Number n
+abbrev pub number_inner : Number → Inner
+number_inner n = inner.Number n
 
 abbrev pub name : Name → Inner
 name n = inner.Name n
@@ -77,24 +74,24 @@ then_slash more = inner.Mark mark.Slash ∷ more
 
 -- `%M:%S` and what follows
 abbrev pub minute_and_second : List Inner → List Inner
-minute_and_second more = number Minute ∷ then_colon (number Second ∷ more)
+minute_and_second more = number_inner Minute ∷ then_colon (number_inner Second ∷ more)
 
 -- the pieces of composites
 abbrev pub inner_of : Composite → List Inner
 -- `%a %b %e %H:%M:%S %Y`
 inner_of composite.DateAndClock =
-    name ShortDay ∷ then_space (name ShortMonth ∷ then_space (number SpacedDay ∷ then_space
-    (number Hour ∷ then_colon (minute_and_second (then_space (number Year ∷ []))))))
+    name ShortDay ∷ then_space (name ShortMonth ∷ then_space (number_inner SpacedDay ∷ then_space
+    (number_inner Hour ∷ then_colon (minute_and_second (then_space (number_inner Year ∷ []))))))
 -- `%m/%d/%y`
-inner_of composite.SlashedDate = number Month ∷ then_slash (number Day ∷ then_slash (number YearOfCentury ∷ []))
+inner_of composite.SlashedDate = number_inner Month ∷ then_slash (number_inner Day ∷ then_slash (number_inner YearOfCentury ∷ []))
 -- `%Y-%m-%d`
-inner_of composite.IsoDate = number Year ∷ then_minus (number Month ∷ then_minus (number Day ∷ []))
+inner_of composite.IsoDate = number_inner Year ∷ then_minus (number_inner Month ∷ then_minus (number_inner Day ∷ []))
 -- `%I:%M:%S %p`
-inner_of composite.ClockOfHalf = number HourOfHalf ∷ then_colon (minute_and_second (then_space (name HalfDay ∷ [])))
+inner_of composite.ClockOfHalf = number_inner HourOfHalf ∷ then_colon (minute_and_second (then_space (name HalfDay ∷ [])))
 -- `%H:%M`
-inner_of composite.ShortClock = number Hour ∷ then_colon (number Minute ∷ [])
+inner_of composite.ShortClock = number_inner Hour ∷ then_colon (number_inner Minute ∷ [])
 -- `%H:%M:%S`
-inner_of composite.Clock = number Hour ∷ then_colon (minute_and_second [])
+inner_of composite.Clock = number_inner Hour ∷ then_colon (minute_and_second [])
 
 abbrev pub inner_text : Flags → LocalTime → Inner → List ℕ
 inner_text flags t (inner.Name n) = name_said n flags t

@@ -13,8 +13,8 @@ use Rattle.git_date.specs.declared.fields.dates.Now.{Now}
 use Rattle.git_date.specs.declared.fields.dates.Dated.{Dated}
 use Rattle.git_date.specs.declared.fields.dates.Dated.TheVariants.{Taken, Refused}
 use Rattle.git_date.specs.declared.fields.dates.Dated.TheVariants as dated
-use Rattle.git_date.specs.declared.fault.Fault.{Fault}
-use Rattle.git_date.specs.declared.fault.Fault.TheVariants.{NumberTooLarge, YearRefused, Range}
+use Rattle.git_date.specs.declared.error.Fault.{Fault}
+use Rattle.git_date.specs.declared.error.Fault.TheVariants.{NumberTooLarge, YearRefused, Range}
 use Rattle.git_date.specs.declared.fields.groups.Group.{Group}
 use Rattle.gix_date.specs.Fields.Layout.{LocalTime}
 

@@ -10,8 +10,8 @@ use Rattle.git_date.specs.Tokens.Numbers.{number, is_too_large}
 use Rattle.git_date.specs.Rules.Groups.{ReadTokens}
 use Rattle.git_date.specs.Rules.Digits.{Stepped}
 use Rattle.git_date.specs.declared.fields.Fields.{Fields}
-use Rattle.git_date.specs.declared.fault.Fault.{Fault}
-use Rattle.git_date.specs.declared.fault.Fault.TheVariants.{NumberTooLarge}
+use Rattle.git_date.specs.declared.error.Fault.{Fault}
+use Rattle.git_date.specs.declared.error.Fault.TheVariants.{NumberTooLarge}
 use Rattle.git_date.specs.declared.fields.offsets.Padded.{Padded}
 
 -- white space: a space, a tab, a line feed, a vertical tab, a form feed, a carriage return

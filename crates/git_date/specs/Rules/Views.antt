@@ -5,7 +5,7 @@ use Rattle.std.specs.List.{fold}
 use Rattle.git_date.specs.Tokens.Tokens.{Token, tokens}
 use Rattle.git_date.specs.Rules.Groups.{ReadTokens}
 use Rattle.git_date.specs.Tokens.Numbers.{max_number}
-use Rattle.git_date.specs.declared.fault.Fault.{Fault}
+use Rattle.git_date.specs.declared.error.Fault.{Fault}
 
 abbrev pub rest_view : {A : Type 0} → A × Bor (List ℕ) → A × List Token
 rest_view found = (found.0, tokens found.1.now)

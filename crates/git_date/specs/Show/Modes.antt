@@ -40,6 +40,10 @@ row_mode row = record { kind = row.1; local = row.2 }
 abbrev pub mode_row : Bor (List ℕ) × DateKind × Bool → List ℕ × DateMode
 mode_row row = (row.0.now, row_mode row)
 
+-- the mode beside the first of these names that a text is
+unfoldable pub mode_held : List ℕ → List (Bor (List ℕ) × DateKind × Bool) → Option DateMode
+mode_held text rows = option_map row_mode (find (λ row. bytes_eq text row.0.now) rows)
+
 -- the long name of a kind
 abbrev pub kind_name : DateKind → List ℕ
 kind_name Relative = codes "relative"

@@ -4,8 +4,10 @@ use Rattle.std.specs.Fmt.{decimal}
 use Rattle.std.specs.Int.Signed.{lt_z}
 use Rattle.std.specs.Option.{ok_or}
 use Rattle.std.specs.Ordering.{int_eq}
-use Rattle.gix_date.specs.Text.Characters.{space, colon}
+use Rattle.gix_date.specs.Text.Characters.{space, colon, comma}
 use Rattle.gix_date.specs.Text.Numbers.{two_digits, decimal_text}
+use Rattle.gix_date.specs.Text.Names.{day_name, month_name}
+use Rattle.gix_date.specs.Fields.FieldTexts.{four_digits, clock_text}
 use Rattle.gix_date.specs.Fields.Layout.{LocalTime, Piece, Rfc2822DayName, MonthName, Day, Year, PlainDate, Clock, Spaces, LetterT, print_pieces}
 use Rattle.gix_date.specs.Fields.Offsets.{offset_sign}
 use Rattle.gix_date.specs.Printing.LocalClocks.{clock_of, local_seconds, last_of_year_9999}
@@ -79,6 +81,14 @@ iso_front = PlainDate ∷ Spaces ∷ Clock ∷ []
 abbrev pub rfc2822_front : List Piece
 rfc2822_front = Rfc2822DayName ∷ Day ∷ Spaces ∷ MonthName ∷ Spaces ∷ Year ∷ Spaces ∷ Clock ∷ []
 
+-- what stands before the day of a mail's date: `Www, `
+unfoldable pub before_day : LocalTime → List ℕ
+before_day t = day_name t.weekday ++ comma ∷ space ∷ []
+
+-- a text, and what stands after the day of a mail's date: ` Mmm YYYY hh:mm:ss`
+unfoldable pub then_month : List ℕ → LocalTime → List ℕ
+then_month text t = text ++ space ∷ month_name t.date.month ++ space ∷ four_digits t.date.year ++ space ∷ clock_text t.clock
+
 -- the default date says no unknown offset
 abbrev pub known_offset_text : ℤ → List ℕ
 known_offset_text offset = if int_eq offset unknown_decimal then [] else spaced_offset_text offset
@@ -118,16 +128,20 @@ is_without_offset Relative = true
 is_without_offset Unix = true
 is_without_offset _ = false
 
+-- what a kind with a clock and nothing else shows
+abbrev pub own_clock_shown : DateKind → GitTime → Result (List ℕ) OwnDateError
+own_clock_shown kind t = shown_of_clock (λ clock. Ok (own_clock_text kind t.offset clock)) (line_clock t)
+
 -- what the other kinds show of a line's seconds and offset
-abbrev pub own_shown_by : DateKind → Moment → GitTime → Result (List ℕ) OwnDateError
-own_shown_by Raw now t = Ok (decimal_text t.seconds ++ spaced_offset_text t.offset)
-own_shown_by Human now t = shown_of_clock (human_by now t (zone_clock now.zone now.seconds)) (line_clock t)
-own_shown_by kind now t = shown_of_clock (λ clock. Ok (own_clock_text kind t.offset clock)) (line_clock t)
+abbrev pub own_date_shown_by : DateKind → Moment → GitTime → Result (List ℕ) OwnDateError
+own_date_shown_by Raw now t = Ok (decimal_text t.seconds ++ spaced_offset_text t.offset)
+own_date_shown_by Human now t = shown_of_clock (human_by now t (zone_clock now.zone now.seconds)) (line_clock t)
+own_date_shown_by kind now t = own_clock_shown kind t
 
 -- What Git shows of an identity line's time. A mode by the zone's clock and a kind without offset show what they show of any time
 -- of these seconds. Before 1970 nothing is shown.
-unfoldable pub own_shown : Moment → DateMode → GitTime → Result (List ℕ) OwnDateError
-own_shown now mode t =
+unfoldable pub own_date_shown : Moment → DateMode → GitTime → Result (List ℕ) OwnDateError
+own_date_shown now mode t =
     if lt_z t.seconds (pos 0) then Err BeforeEpoch
     else (if mode.local || is_without_offset mode.kind then ok_or (shown_by mode.kind now mode.local (record { seconds = t.seconds; offset = pos 0 })) Range
-    else own_shown_by mode.kind now t)
+    else own_date_shown_by mode.kind now t)

@@ -1,5 +1,6 @@
 -- Words that name a day of the week, and those that name a zone, by their beginnings.
-use Rattle.std.specs.Prelude.{ℕ, ◌*◌, ◌==◌, Bool, false, not, ◌&&◌, ◌||◌, List, take, drop, [], ◌∷◌, ℤ, pos, neg_ℤ, codes, Option, option_map, is_some}
+use Rattle.std.specs.Prelude.{◌≡◌, ◌-◌, map, ℕ, ◌*◌, ◌==◌, Bool, false, not, ◌&&◌, ◌||◌, List, take, drop, [], ◌∷◌, ℤ, pos, neg_ℤ, codes, Option, option_map, is_some}
+use Rattle.std.specs.Borrow.{Bor}
 use Rattle.std.specs.List.{find, list_all}
 use Rattle.std.specs.Char.{to_ascii_lowercase}
 use Rattle.gix_date.specs.Text.Names.{is_name}
@@ -35,13 +36,21 @@ zone_rows =
     ∷ (codes "UTC", pos 0) ∷ (codes "WAT", behind 1) ∷ (codes "WET", pos 0) ∷ (codes "WAST", ahead 7)
     ∷ (codes "WADT", ahead 8) ∷ (codes "YST", behind 9) ∷ (codes "YDT", behind 8) ∷ (codes "Z", pos 0) ∷ []
 
+-- what stands beside the first name between two places that a word tells
+unfoldable pub zone_held : List ℕ → List (Bor (List ℕ) × ℤ) → ℕ → ℕ → Option ℤ
+zone_held word rows first end = option_map (λ row. row.1) (find (λ row. is_zone_name word row.0.now) (take (end - first) (drop first rows)))
+
+-- these rows are the zones, behind references
+unfoldable pub AreZones : List (Bor (List ℕ) × ℤ) → Type 0
+AreZones rows = map (λ row. (row.0.now, row.1)) rows ≡ zone_rows
+
 -- a name begins with a small letter, in any letter case
 abbrev pub has_initial : ℕ → List ℕ → Bool
 has_initial letter [] = false
 has_initial letter (c ∷ name) = letter == to_ascii_lowercase c
 
 -- the zones whose names begin with a small letter stand from one place on, and before another
-abbrev pub stand_between : ℕ → ℕ → ℕ → Bool
+unfoldable pub stand_between : ℕ → ℕ → ℕ → Bool
 stand_between letter first end =
     list_all (λ row. not (has_initial letter row.0)) (take first zone_rows)
     && list_all (λ row. not (has_initial letter row.0)) (drop end zone_rows)

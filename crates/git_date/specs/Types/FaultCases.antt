@@ -1,7 +1,7 @@
 -- The variants of `Fault`.
 use Rattle.std.specs.Prelude.{ℕ}
 use Rattle.git_date.specs.Types.Names.{Fault}
-use Rattle.git_date.specs.declared.fault.Fault.TheVariants as variant
+use Rattle.git_date.specs.declared.error.Fault.TheVariants as variant
 
 pattern abbrev pub NumberTooLarge : ℕ → Fault
 NumberTooLarge a = variant.NumberTooLarge a

@@ -1,9 +1,9 @@
 //! What an approximate text says so far.
-ghost use Rattle.std.specs.Prelude.{◌≡◌, ◌≤◌, None};
-ghost use Rattle.git_date.specs.Approximate.Drafts.{clock_fields, all_fields, last_of, first_draft, with_shown, ignore, lone_year, with_number, without_number, settle, dropped, with_hour, is_before, half, with_half, units, days_back, weekday_seconds, less_months};
+ghost use Rattle.std.specs.Prelude.{◌≡◌, ◌≤◌};
+ghost use Rattle.git_date.specs as Spec;
 
-use crate::approximate::shown::ZoneClock;
-use crate::fault::Fault;
+use crate::approximate::zone::ZoneClock;
+use crate::error::Fault;
 use crate::fields::Fields;
 use crate::fields::groups::Number;
 use gix_date::clock::Clock;
@@ -22,7 +22,7 @@ pub(crate) struct LastShown {
 
 impl LastShown {
     fn of(guess: i32, shown: ZoneClock) -> LastShown
-        ensures { result ≡ last_of guess shown }
+        ensures { result ≡ Spec.last_of guess shown }
     {
         LastShown {
             weekday: shown.clock.weekday(),
@@ -50,7 +50,7 @@ pub(crate) struct Draft {
 
 /// The fields of a clock without its date.
 fn clock_fields(shown: Clock) -> Fields
-    ensures { result ≡ clock_fields shown }
+    ensures { result ≡ Spec.clock_fields shown }
 {
     Fields {
         hour: Some(shown.hour()),
@@ -62,7 +62,7 @@ fn clock_fields(shown: Clock) -> Fields
 
 /// The fields of a clock and its date.
 fn all_fields(shown: Clock) -> Fields
-    ensures { result ≡ all_fields shown }
+    ensures { result ≡ Spec.all_fields shown }
 {
     Fields {
         year: Some(shown.year()),
@@ -75,7 +75,7 @@ fn all_fields(shown: Clock) -> Fields
 impl Fields {
     /// With what a number says alone: the day, the month or the year.
     fn with_number(self, n: u64) -> Option<Fields>
-        ensures { result ≡ with_number self n }
+        ensures { result ≡ Spec.with_number self n }
     {
         if n < 32 && self.day.is_none() {
             return Some(Fields {
@@ -100,7 +100,7 @@ impl Fields {
 
     /// With the month so many months earlier. `None` before 1900.
     pub(crate) fn less_months(self, months: u64) -> Option<Fields>
-        ensures { result ≡ less_months self months }
+        ensures { result ≡ Spec.less_months self months }
     {
         let year = self.year?;
         let month = self.month?;
@@ -119,7 +119,7 @@ impl Fields {
 
 /// The year that a number says alone.
 fn lone_year(n: u64) -> Option<u16>
-    ensures { result ≡ lone_year n }
+    ensures { result ≡ Spec.lone_year n }
 {
     if 1970 <= n && n <= 2099 {
         Some(n as u16)
@@ -135,7 +135,7 @@ fn lone_year(n: u64) -> Option<u16>
 impl Draft {
     /// Before the first token: today's clock, and no date.
     pub(crate) fn first(today: ZoneClock) -> Draft
-        ensures { result ≡ first_draft today }
+        ensures { result ≡ Spec.first_draft today }
     {
         Draft {
             fields: clock_fields(today.clock),
@@ -148,7 +148,7 @@ impl Draft {
 
     /// With all that a clock shows.
     pub(crate) fn with_shown(self, guess: i32, shown: ZoneClock) -> Draft
-        ensures { result ≡ with_shown self guess shown }
+        ensures { result ≡ Spec.with_shown self guess shown }
     {
         Draft {
             fields: all_fields(shown.clock),
@@ -159,7 +159,7 @@ impl Draft {
 
     /// With what is ignored from the place on from which so many bytes are left.
     pub(crate) fn ignore(self, left: usize) -> Draft
-        ensures { result ≡ ignore self left }
+        ensures { result ≡ Spec.ignore self left }
     {
         Draft {
             ignored: Some(self.ignored.map_or(left, |other| left.max(other))),
@@ -169,7 +169,7 @@ impl Draft {
 
     /// With no number that waits.
     pub(crate) fn without_number(self) -> Draft
-        ensures { result ≡ without_number self }
+        ensures { result ≡ Spec.without_number self }
     {
         Draft {
             waiting: None,
@@ -178,9 +178,9 @@ impl Draft {
     }
 
     /// With the field that the waiting number says, or with that number ignored.
-    #[tactic(auto, unfolding(crate::specs::Approximate::Drafts::settle))]
+    #[tactic(auto, unfolding(crate::specs::settle))]
     pub(crate) fn settle(self) -> Draft
-        ensures { result ≡ settle self }
+        ensures { result ≡ Spec.settle self }
     {
         let Some(n) = self.waiting else {
             return self;
@@ -194,7 +194,7 @@ impl Draft {
 
     /// With the waiting number ignored.
     pub(crate) fn dropped(self) -> Draft
-        ensures { result ≡ dropped self }
+        ensures { result ≡ Spec.dropped self }
     {
         match self.waiting {
             Some(n) => self.without_number().ignore(n.left),
@@ -204,7 +204,7 @@ impl Draft {
 
     /// With a whole hour.
     pub(crate) fn with_hour(self, hour: u8) -> Draft
-        ensures { result ≡ with_hour self hour }
+        ensures { result ≡ Spec.with_hour self hour }
     {
         Draft {
             fields: Fields {
@@ -217,51 +217,36 @@ impl Draft {
         }
     }
 
-    /// Whether the clock is before a whole hour.
-    pub(crate) fn is_before(self, hour: u8) -> bool
-        ensures { result ≡ is_before self.fields.hour hour }
-    {
-        self.fields.hour.is_some_and(|shown| shown < hour)
-    }
-
     /// With an hour of the half of a day that begins with this one: the waiting number, or else the clock's hour.
     pub(crate) fn half(self, first: u8) -> Draft
         requires { first ≤ 12 }
-        ensures { result ≡ half self first }
+        ensures { result ≡ Spec.half self first }
     {
         match self.waiting {
             Some(n) => self
                 .without_number()
                 .with_hour((n.value % 12) as u8 + first),
-            None => self.with_half(first),
-        }
-    }
-
-    /// With the clock's hour in that half of a day.
-    fn with_half(self, first: u8) -> Draft
-        requires { first ≤ 12 }
-        ensures { result ≡ with_half self first }
-    {
-        Draft {
-            fields: Fields {
-                hour: self.fields.hour.map(|hour| hour % 12 + first),
-                ..self.fields
+            None => Draft {
+                fields: Fields {
+                    hour: self.fields.hour.map(|hour| hour % 12 + first),
+                    ..self.fields
+                },
+                ..self
             },
-            ..self
         }
     }
 }
 
 /// So many units of so much.
 pub(crate) fn units(n: u64, size: u32) -> u64
-    ensures { result ≡ units n size }
+    ensures { result ≡ Spec.units n size }
 {
     n.saturating_mul(u64::from(size))
 }
 
 /// The days from 1 to 7 back to the day of the week that is named.
 fn days_back(weekday: u8, named: u8) -> u32
-    ensures value { result ≡ days_back weekday named }
+    ensures value { result ≡ Spec.days_back weekday named }
     ensures small { result ≤ 7 }
 {
     (u32::from(weekday) + 6).saturating_sub(u32::from(named)) % 7 + 1
@@ -269,7 +254,7 @@ fn days_back(weekday: u8, named: u8) -> u32
 
 /// The seconds back to the day of the week that is named, at the count of such days.
 pub(crate) fn weekday_seconds(weekday: u8, named: u8, n: u64) -> u64
-    ensures { result ≡ weekday_seconds weekday named n }
+    ensures { result ≡ Spec.weekday_seconds weekday named n }
 {
     let weeks = units(n.saturating_sub(1), 7 * SECONDS_PER_DAY as u32);
     weeks.saturating_add(SECONDS_PER_DAY as u64 * u64::from(days_back(weekday, named)))

@@ -1,11 +1,10 @@
 //! What expires, as in `gc.pruneExpire`.
 ghost use Rattle.std.specs.Prelude.{◌≡◌};
-ghost use Rattle.git_date.specs.Approximate.Expiry.{fixed_expiry, expiry_of, ExpiryOutcome, HasExpiryPlacesIn};
+ghost use Rattle.git_date.specs as Spec;
 
-use crate::approximate::answer::Approximate;
-use crate::approximate::approxidate;
+use crate::approximate::{Approximate, approxidate};
 use crate::error::DateError;
-use crate::tokens::strings::up_to_nul;
+use crate::tokens::up_to_nul;
 use gix_date::Zoned;
 
 /// What expires by a text such as `gc.pruneExpire` has.
@@ -21,7 +20,7 @@ pub enum Expiry {
 
 /// What the words say that are no dates here. By git-gc's manual `never` suppresses expiration, and `now` expires all at once.
 fn fixed_expiry(text: &[u8]) -> Option<Expiry>
-    ensures { result ≡ fixed_expiry text.now }
+    ensures { result ≡ Spec.fixed_expiry text.now }
 {
     if text == b"never".as_slice() || text == b"false".as_slice() {
         Some(Expiry::Never)
@@ -34,7 +33,7 @@ fn fixed_expiry(text: &[u8]) -> Option<Expiry>
 
 /// What a date says of which something was understood. Git refuses any other, too.
 fn expiry_of(date: Result<Approximate, DateError>) -> Result<Expiry, DateError>
-    ensures { result ≡ expiry_of date }
+    ensures { result ≡ Spec.expiry_of date }
 {
     let date = date?;
     if date.understood {
@@ -52,8 +51,8 @@ fn expiry_of(date: Result<Approximate, DateError>) -> Result<Expiry, DateError>
 /// is one where a character of the text begins. Takes no memory.
 #[tactic(auto, using(crate::proofs::Guesses::Places::expiry_places))]
 pub fn expiry_date(text: &[u8], now: Zoned<'_>) -> Result<Expiry, DateError>
-    ensures answer { ExpiryOutcome now.entry text.now result }
-    ensures places { HasExpiryPlacesIn text.now result }
+    ensures answer { Spec.ExpiryOutcome now.entry text.now result }
+    ensures places { Spec.HasExpiryPlacesIn text.now result }
 {
     match fixed_expiry(up_to_nul(text).0) {
         Some(expiry) => Ok(expiry),

@@ -1,8 +1,8 @@
 //! What words say to the approximate reader.
 ghost use Rattle.std.specs.Prelude.{◌≡◌};
 ghost use Rattle.std.specs.List.{position};
-ghost use Rattle.gix_date.specs.Text.Names.{is_name};
-ghost use Rattle.git_date.specs.Approximate.Words.{moment_named, count_named, is_unit, unit_named, meaning_of};
+ghost use Rattle.git_date.specs as Spec;
+ghost use Rattle.gix_date.specs as GixDate;
 
 use gix_date::names::{begins, is_name, month_told, weekday_told};
 use gix_date::time::SECONDS_PER_DAY;
@@ -44,9 +44,9 @@ const NUMBERS: [&[u8]; 10] = [
 ];
 
 /// What a word of a moment says.
-#[tactic(auto, unfolding(crate::specs::Approximate::Words::moment_named))]
+#[tactic(auto, unfolding(crate::specs::moment_named))]
 fn moment_named(word: &[u8]) -> Option<Meaning>
-    ensures { result ≡ moment_named word.now }
+    ensures { result ≡ Spec.moment_named word.now }
 {
     if is_name(word, b"now") {
         Some(Meaning::Back(0))
@@ -71,15 +71,15 @@ fn moment_named(word: &[u8]) -> Option<Meaning>
 
 /// The place of the name that a word is.
 fn place_of(word: &[u8], names: &[&[u8]]) -> Option<usize>
-    ensures { result ≡ position (λ name. is_name word.now name.now) names.now }
+    ensures { result ≡ position (λ name. GixDate.is_name word.now name.now) names.now }
 {
     names.iter().position(|name| is_name(word, name))
 }
 
 /// What `one` to `ten` and `last` count.
-#[tactic(auto, unfolding(crate::specs::Approximate::Words::count_named))]
+#[tactic(auto, unfolding(crate::specs::count_named))]
 fn count_named(word: &[u8]) -> Option<u8>
-    ensures { result ≡ count_named word.now }
+    ensures { result ≡ Spec.count_named word.now }
 {
     if is_name(word, b"last") {
         return Some(1);
@@ -90,15 +90,15 @@ fn count_named(word: &[u8]) -> Option<u8>
 
 /// Whether a word is a unit's name, or that without its last letter. Git knows no shorter ones: `mins` is none.
 fn is_unit(word: &[u8], name: &[u8]) -> bool
-    ensures { result ≡ is_unit word.now name.now }
+    ensures { result ≡ Spec.is_unit word.now name.now }
 {
     is_name(word, name) || (word.len() + 1 == name.len() && begins(word, name))
 }
 
 /// The unit that a word names.
-#[tactic(auto, unfolding(crate::specs::Approximate::Words::unit_named))]
+#[tactic(auto, unfolding(crate::specs::unit_named))]
 fn unit_named(word: &[u8]) -> Option<Unit>
-    ensures { result ≡ unit_named word.now }
+    ensures { result ≡ Spec.unit_named word.now }
 {
     if is_unit(word, b"seconds") {
         Some(Unit::Seconds(1))
@@ -120,9 +120,9 @@ fn unit_named(word: &[u8]) -> Option<Unit>
 }
 
 /// What a word says, if it is known. As in Git `today`, `tomorrow` and `next` are not.
-#[tactic(auto, unfolding(crate::specs::Approximate::Words::meaning_of))]
+#[tactic(auto, unfolding(crate::specs::meaning_of))]
 pub(crate) fn meaning_of(word: &[u8]) -> Option<Meaning>
-    ensures { result ≡ meaning_of word.now }
+    ensures { result ≡ Spec.meaning_of word.now }
 {
     if let Some(month) = month_told(word) {
         return Some(Meaning::Month(month));

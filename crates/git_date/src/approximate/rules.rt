@@ -1,17 +1,12 @@
 //! The rules of the approximate reader: what digits and words make of a draft.
-ghost use Rattle.std.specs.Prelude.{◌≡◌, ◌≤◌, ◌∷◌, length, IfOk};
-ghost use Rattle.git_date.specs.Tokens.Tokens.{tokens, Letters, bytes_left};
-ghost use Rattle.git_date.specs.Approximate.Words.{meaning_of};
-ghost use Rattle.git_date.specs.Tokens.Numbers.{number};
-ghost use Rattle.gix_date.specs.Relative.Steps.{zone_of};
-ghost use Rattle.git_date.specs.Exact.Zones.{states_of};
-ghost use Rattle.git_date.specs.Approximate.Rules.{used, hour_rule, back_rule, months_rule, unit_rule, counted_by, count_waits, with_month, first_instant, meaning_rule, word_by, read_word, are_digits_next, letters_rule, is_padded, number_waits, digits_rule};
-ghost use Rattle.git_date.specs.Rules.Views.{step_view};
+ghost use Rattle.std.specs.Prelude.{◌≡◌, ◌≤◌, length, IfOk};
+ghost use Rattle.git_date.specs as Spec;
+ghost use Rattle.gix_date.specs as GixDate;
 
 use crate::approximate::drafts::{Draft, Drafted, units, weekday_seconds};
 use crate::approximate::meanings::{Meaning, Unit, meaning_of};
 use crate::approximate::zone::{Found, fill, moved_to};
-use crate::fault::Fault;
+use crate::error::Fault;
 use crate::fields::Fields;
 use crate::fields::dates::Now;
 use crate::fields::digits::group_said;
@@ -27,17 +22,17 @@ use gix_date::time::SECONDS_PER_DAY;
 type Ruled = Result<Option<Draft>, Fault>;
 
 fn used(draft: Drafted) -> Ruled
-    ensures { result ≡ used draft }
+    ensures { result ≡ Spec.used draft }
 {
     Ok(Some(draft?))
 }
 
 /// `midnight`, `noon` and `tea`: where the clock is before that hour, the day before. gitrevisions asks for a prior point in time.
 fn hour_rule(moment: Zoned<'_>, today: Clock, draft: Draft, hour: u8, left: usize) -> Drafted
-    ensures { result ≡ hour_rule (states_of (zone_of moment.entry)) today draft hour left }
+    ensures { result ≡ Spec.hour_rule (Spec.states_of (GixDate.zone_of moment.entry)) today draft hour left }
 {
     let settled = draft.settle();
-    let day = if settled.is_before(hour) {
+    let day = if settled.fields.hour.is_some_and(|shown| shown < hour) {
         fill(moment, today, settled, SECONDS_PER_DAY as u32, left)?
     } else {
         settled
@@ -47,7 +42,7 @@ fn hour_rule(moment: Zoned<'_>, today: Clock, draft: Draft, hour: u8, left: usiz
 
 /// A number of seconds back. Git keeps them in 32 bits: its `25000 days ago` lies ahead, and is refused here.
 fn back_rule(moment: Zoned<'_>, today: Clock, draft: Draft, back: u64, n: Number) -> Drafted
-    ensures { result ≡ back_rule (states_of (zone_of moment.entry)) today draft back n }
+    ensures { result ≡ Spec.back_rule (Spec.states_of (GixDate.zone_of moment.entry)) today draft back n }
 {
     if MAX_SMALL < back {
         return Err(Fault::BackTooFar(n.left));
@@ -57,7 +52,7 @@ fn back_rule(moment: Zoned<'_>, today: Clock, draft: Draft, back: u64, n: Number
 
 /// A number of months back. To Git a year before 1900 is unknown, so its `200 years ago` is this year, and is refused here.
 fn months_rule(moment: Zoned<'_>, today: Clock, draft: Draft, months: u64, n: Number) -> Drafted
-    ensures { result ≡ months_rule (states_of (zone_of moment.entry)) today draft months n }
+    ensures { result ≡ Spec.months_rule (Spec.states_of (GixDate.zone_of moment.entry)) today draft months n }
 {
     let filled = fill(moment, today, draft, 0, n.left)?;
     let fields = filled
@@ -69,7 +64,7 @@ fn months_rule(moment: Zoned<'_>, today: Clock, draft: Draft, months: u64, n: Nu
 
 /// What a number counts.
 fn unit_rule(moment: Zoned<'_>, today: Clock, draft: Draft, unit: Unit, n: Number) -> Drafted
-    ensures { result ≡ unit_rule (states_of (zone_of moment.entry)) today draft unit n }
+    ensures { result ≡ Spec.unit_rule (Spec.states_of (GixDate.zone_of moment.entry)) today draft unit n }
 {
     let rest = draft.without_number();
     match unit {
@@ -84,7 +79,7 @@ fn unit_rule(moment: Zoned<'_>, today: Clock, draft: Draft, unit: Unit, n: Numbe
 
 /// What the waiting number counts. Without one a unit says nothing, so Git understands no `friday` alone.
 fn counted(moment: Zoned<'_>, today: Clock, draft: Draft, unit: Unit) -> Ruled
-    ensures { result ≡ counted_by (states_of (zone_of moment.entry)) today draft unit draft.waiting }
+    ensures { result ≡ Spec.counted_by (Spec.states_of (GixDate.zone_of moment.entry)) today draft unit draft.waiting }
 {
     match draft.waiting {
         Some(n) => used(unit_rule(moment, today, draft, unit, n)),
@@ -94,7 +89,7 @@ fn counted(moment: Zoned<'_>, today: Clock, draft: Draft, unit: Unit) -> Ruled
 
 /// A number waits, where none waits yet.
 fn count_waits(draft: Draft, n: u8, left: usize) -> Option<Draft>
-    ensures { result ≡ count_waits draft n left draft.waiting }
+    ensures { result ≡ Spec.count_waits draft n left draft.waiting }
 {
     match draft.waiting {
         Some(_) => None,
@@ -110,7 +105,7 @@ fn count_waits(draft: Draft, n: u8, left: usize) -> Option<Draft>
 
 /// With a month.
 fn with_month(draft: Draft, month: u8) -> Draft
-    ensures { result ≡ with_month draft month }
+    ensures { result ≡ Spec.with_month draft month }
 {
     Draft {
         fields: Fields {
@@ -121,18 +116,8 @@ fn with_month(draft: Draft, month: u8) -> Draft
     }
 }
 
-/// The first instant of 1970, which no search finds.
-fn first_instant(draft: Draft) -> Found
-    ensures { result ≡ first_instant draft }
-{
-    Found {
-        instant: 0,
-        guess: draft.last.guess,
-    }
-}
-
 /// What a word makes of a draft by what it says.
-#[tactic(auto, unfolding(crate::specs::Approximate::Rules::meaning_rule))]
+#[tactic(auto, unfolding(crate::specs::meaning_rule))]
 fn meaning_rule(
     moment: Zoned<'_>,
     today: Clock,
@@ -140,12 +125,16 @@ fn meaning_rule(
     left: usize,
     meaning: Meaning,
 ) -> Ruled
-    ensures { result ≡ meaning_rule (states_of (zone_of moment.entry)) today draft left meaning }
+    ensures { result ≡ Spec.meaning_rule (Spec.states_of (GixDate.zone_of moment.entry)) today draft left meaning }
 {
     match meaning {
         Meaning::Month(month) => Ok(Some(with_month(draft, month))),
         Meaning::Back(seconds) => used(fill(moment, today, draft.dropped(), seconds, left)),
-        Meaning::Never => used(moved_to(moment, draft.dropped(), left, first_instant(draft))),
+        // The first instant of 1970, which no search finds.
+        Meaning::Never => {
+            let guess = draft.last.guess;
+            used(moved_to(moment, draft.dropped(), left, Found { instant: 0, guess }))
+        }
         Meaning::Hour(hour) => used(hour_rule(moment, today, draft, hour, left)),
         Meaning::Morning => Ok(Some(draft.half(0))),
         Meaning::Afternoon => Ok(Some(draft.half(12))),
@@ -156,7 +145,7 @@ fn meaning_rule(
 
 /// What a word makes of a draft.
 fn word_rule(moment: Zoned<'_>, today: Clock, draft: Draft, left: usize, word: &[u8]) -> Ruled
-    ensures { result ≡ word_by (states_of (zone_of moment.entry)) today draft left (meaning_of word.now) }
+    ensures { result ≡ Spec.word_by (Spec.states_of (GixDate.zone_of moment.entry)) today draft left (Spec.meaning_of word.now) }
 {
     match meaning_of(word) {
         Some(meaning) => meaning_rule(moment, today, draft, left, meaning),
@@ -166,7 +155,7 @@ fn word_rule(moment: Zoned<'_>, today: Clock, draft: Draft, left: usize, word: &
 
 /// The draft after a word: one that did nothing is ignored, unless it is a filler.
 fn read_word(draft: Draft, word: &[u8], left: usize, ruled: Ruled) -> Drafted
-    ensures { result ≡ read_word draft word.now left ruled }
+    ensures { result ≡ Spec.read_word draft word.now left ruled }
 {
     match ruled? {
         Some(next) => Ok(Draft {
@@ -178,15 +167,8 @@ fn read_word(draft: Draft, word: &[u8], left: usize, ruled: Ruled) -> Drafted
     }
 }
 
-/// Whether the token that stands first is digits.
-fn begins_with_digits(text: &[u8]) -> bool
-    ensures { result ≡ are_digits_next (tokens text.now) }
-{
-    matches!(next_token(text), Some((Token::Digits(_), _)))
-}
-
 /// What letters make of a draft, by the text after them. To Git `jan5` is one word, and no name has a digit.
-#[tactic(auto, unfolding(crate::specs::Approximate::Rules::letters_rule))]
+#[tactic(auto, unfolding(crate::specs::approximate_letters_rule))]
 pub(crate) fn letters_rule(
     moment: Zoned<'_>,
     today: Clock,
@@ -194,36 +176,26 @@ pub(crate) fn letters_rule(
     run: &[u8],
     text: &[u8],
 ) -> Drafted
-    ensures { result ≡ letters_rule (states_of (zone_of moment.entry)) today draft run.now (tokens text.now) }
+    ensures { result ≡ Spec.approximate_letters_rule (Spec.states_of (GixDate.zone_of moment.entry)) today draft run.now (Spec.tokens text.now) }
 {
-    let left = letters_left(run, text);
-    if begins_with_digits(text) {
+    let left = left_from(run, text);
+    if matches!(next_token(text), Some((Token::Digits(_), _))) {
         return Ok(draft.ignore(left));
     }
     read_word(draft, run, left, word_rule(moment, today, draft, left, run))
 }
 
-/// How many bytes are left from these letters on, by the text after them.
-fn letters_left(run: &[u8], text: &[u8]) -> usize
-    ensures { result ≡ bytes_left (Letters run.now ∷ tokens text.now) }
-{
-    left_from(run, text)
-}
-
 /// Whether three digits or more begin with 0. In Git `07` may be a day or a month, and `007` says nothing.
 fn is_padded(run: &[u8]) -> bool
-    ensures { result ≡ is_padded run.now }
+    ensures { result ≡ Spec.is_padded run.now }
 {
-    match run {
-        [first, _, _, ..] => *first == b'0',
-        _ => false,
-    }
+    matches!(run, [first, _, _, ..] if *first == b'0')
 }
 
 /// A number waits, unless it is padded, or 0, by which Git says that none waits.
 fn number_waits(draft: Draft, value: u64, run: &[u8], left: usize) -> Draft
-    requires { value ≡ number run.now }
-    ensures { result ≡ number_waits draft run.now left }
+    requires { value ≡ Spec.number run.now }
+    ensures { result ≡ Spec.number_waits draft run.now left }
 {
     if value == 0 || is_padded(run) {
         return draft.ignore(left);
@@ -235,14 +207,14 @@ fn number_waits(draft: Draft, value: u64, run: &[u8], left: usize) -> Draft
 }
 
 /// What digits make of a draft, and what is left to read, before an ending of theirs.
-#[tactic(auto, unfolding(crate::specs::Approximate::Rules::digits_rule))]
+#[tactic(auto, unfolding(crate::specs::approximate_digits_rule))]
 pub(crate) fn digits_rule<'a>(
     now: Now,
     draft: Draft,
     run: &[u8],
     text: &'a [u8],
 ) -> Result<(Draft, &'a [u8]), Fault>
-    ensures value { step_view result ≡ digits_rule now draft run.now (tokens text.now) }
+    ensures value { Spec.step_view result ≡ Spec.approximate_digits_rule now draft run.now (Spec.tokens text.now) }
     ensures shorter { IfOk result (λ found. length found.1.now ≤ length text.now) }
 {
     let n = number(run);

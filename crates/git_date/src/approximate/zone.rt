@@ -1,16 +1,16 @@
 //! What a zone's clock shows, which instants Git finds by it, and how dates are filled in from there.
 ghost use Rattle.std.specs.Prelude.{◌≡◌, ◌^◌, pos, neg_ℤ, IfSome};
 ghost use Rattle.jiff_core.specs.Calendar.{IsBetween};
-ghost use Rattle.gix_date.specs.Relative.Steps.{zone_of};
-ghost use Rattle.git_date.specs.Exact.Zones.{states_of};
-ghost use Rattle.git_date.specs.Approximate.Zones.{shown_in, found_at, filled, moved_to, before, fill, filled_time};
+ghost use Rattle.git_date.specs as Spec;
+ghost use Rattle.gix_date.specs as GixDate;
 
 use crate::approximate::drafts::{Draft, Drafted, LastShown};
-use crate::approximate::shown::{ZoneClock, filled_seconds, shown_at};
-use crate::fault::Fault;
+use crate::error::Fault;
 use crate::fields::Fields;
-use crate::zones::{Asked, before_leap, found_offset, state_at};
+use crate::fields::dates::{first_second, seconds_after};
+use crate::zones::{Asked, before_leap, earlier, found_offset, state_at};
 use gix_date::clock::Clock;
+use gix_date::time::LAST_OF_YEAR_9999;
 use gix_date::{Time, Zoned};
 
 /// The instant at which a clock is read.
@@ -22,9 +22,9 @@ pub(crate) struct Found {
 }
 
 /// What the clock of the moment's zone shows at an instant, with its offset and its flag there. `None` before 1900.
-#[tactic(auto, unfolding(crate::specs::Approximate::Zones::shown_in))]
+#[tactic(auto, unfolding(crate::specs::shown_in))]
 pub(crate) fn shown_in(moment: Zoned<'_>, instant: i64) -> Option<ZoneClock>
-    ensures { result ≡ shown_in (states_of (zone_of moment.entry)) instant }
+    ensures { result ≡ Spec.shown_in (Spec.states_of (GixDate.zone_of moment.entry)) instant }
 {
     let there = state_at(moment.time_zone(), instant)?;
     let shown = shown_at(instant + i64::from(there.offset))?;
@@ -36,10 +36,10 @@ pub(crate) fn shown_in(moment: Zoned<'_>, instant: i64) -> Option<ZoneClock>
 
 /// The instant at which the clock of the moment's zone has counted so many seconds since 1970-01-01 00:00:00, by the flag of the last
 /// one and from where the last search ended.
-#[tactic(auto, unfolding(crate::specs::Approximate::Zones::found_at))]
+#[tactic(auto, unfolding(crate::specs::found_at))]
 fn found_at(moment: Zoned<'_>, last: LastShown, leap: bool, local: i64) -> Option<Found>
     requires { IsBetween (neg_ℤ (pos (10 ^ 16))) (pos (10 ^ 16)) local }
-    ensures value { result ≡ found_at (states_of (zone_of moment.entry)) last leap local }
+    ensures value { result ≡ Spec.found_at (Spec.states_of (GixDate.zone_of moment.entry)) last leap local }
     ensures small { IfSome result (λ found. IsBetween (neg_ℤ (pos (10 ^ 15))) (pos (10 ^ 15)) found.instant) }
 {
     let asked = Asked {
@@ -54,9 +54,9 @@ fn found_at(moment: Zoned<'_>, last: LastShown, leap: bool, local: i64) -> Optio
 }
 
 /// The instant at which the clock of the moment's zone shows these fields.
-#[tactic(auto, unfolding(crate::specs::Approximate::Zones::filled))]
+#[tactic(auto, unfolding(crate::specs::filled_instant))]
 fn filled(moment: Zoned<'_>, today: Clock, last: LastShown, fields: Fields) -> Option<Found>
-    ensures value { result ≡ filled (states_of (zone_of moment.entry)) today last fields }
+    ensures value { result ≡ Spec.filled_instant (Spec.states_of (GixDate.zone_of moment.entry)) today last fields }
     ensures small { IfSome result (λ found. IsBetween (neg_ℤ (pos (10 ^ 15))) (pos (10 ^ 15)) found.instant) }
 {
     let local = filled_seconds(today, fields)?;
@@ -64,14 +64,14 @@ fn filled(moment: Zoned<'_>, today: Clock, last: LastShown, fields: Fields) -> O
 }
 
 /// The time at which the clock of the moment's zone shows these fields, or that is found in its place.
-#[tactic(auto, unfolding(crate::specs::Approximate::Zones::filled_time))]
+#[tactic(auto, unfolding(crate::specs::filled_time))]
 pub(crate) fn filled_time(
     moment: Zoned<'_>,
     today: Clock,
     last: LastShown,
     fields: Fields,
 ) -> Option<Time>
-    ensures { result ≡ filled_time (states_of (zone_of moment.entry)) today last fields }
+    ensures { result ≡ Spec.filled_time (Spec.states_of (GixDate.zone_of moment.entry)) today last fields }
 {
     let found = filled(moment, today, last, fields)?;
     let there = state_at(moment.time_zone(), found.instant)?;
@@ -79,24 +79,81 @@ pub(crate) fn filled_time(
 }
 
 /// With the zone's clock at an instant.
-#[tactic(auto, unfolding(crate::specs::Approximate::Zones::moved_to))]
+#[tactic(auto, unfolding(crate::specs::moved_to))]
 pub(crate) fn moved_to(moment: Zoned<'_>, draft: Draft, left: usize, found: Found) -> Drafted
-    ensures { result ≡ moved_to (states_of (zone_of moment.entry)) draft left found }
+    ensures { result ≡ Spec.moved_to (Spec.states_of (GixDate.zone_of moment.entry)) draft left found }
 {
     let shown = shown_in(moment, found.instant).ok_or(Fault::BackTooFar(left))?;
     Ok(draft.with_shown(found.guess, shown))
 }
 
 /// With the zone's clock so many seconds before it shows the fields, where the date is today's as far as it is not said.
-#[tactic(auto, unfolding(crate::specs::Approximate::Zones::fill))]
+#[tactic(auto, using(gix_date::proofs::Text::Ints::held, crate::proofs::Guesses::ZoneClocks::filled_by), unfolding(crate::specs::fill))]
 pub(crate) fn fill(moment: Zoned<'_>, today: Clock, draft: Draft, back: u32, left: usize) -> Drafted
-    ensures { result ≡ fill (states_of (zone_of moment.entry)) today draft back left }
+    ensures { result ≡ Spec.fill (Spec.states_of (GixDate.zone_of moment.entry)) today draft back left }
 {
     match filled(moment, today, draft.last, draft.fields) {
         Some(found) => {
-            let instant = found.instant - i64::from(back);
+            let instant = earlier(found.instant, i64::from(back));
             moved_to(moment, draft, left, Found { instant, ..found })
         }
         None => Err(Fault::Range),
     }
+}
+
+/// What a zone's clock shows at an instant.
+#[derive(Clone, Copy)]
+pub(crate) struct ZoneClock {
+    /// With its offset there.
+    pub(crate) clock: Clock,
+    /// Whether that is daylight saving time.
+    pub(crate) daylight: bool,
+}
+
+/// The first second of the year 1900 by a clock.
+const FIRST_OF_YEAR_1900: i64 = -2_208_988_800;
+
+/// Whether a clock shows a year from 1900 to 9999 when it has counted so many seconds.
+fn is_shown(seconds: i64) -> bool
+    ensures { result ≡ Spec.is_shown seconds }
+{
+    FIRST_OF_YEAR_1900 <= seconds && seconds <= LAST_OF_YEAR_9999
+}
+
+/// What a clock shows that has counted so many seconds since 1970-01-01 00:00:00. `None` before 1900 and after 9999.
+#[tactic(auto, using(gix_date::proofs::Text::Ints::held, crate::proofs::Guesses::Clocks::none_shown, crate::proofs::Rules::HeldClocks::utc_showable, crate::proofs::Guesses::Clocks::shown_within, crate::proofs::Guesses::Clocks::a_shown))]
+pub(crate) fn shown_at(seconds: i64) -> Option<Clock>
+    ensures { result ≡ Spec.clock_shown_at seconds }
+{
+    if !is_shown(seconds) {
+        return None;
+    }
+    Some(Clock::of(Time::new(seconds, 0)))
+}
+
+/// The year of a month where none is said: a month later than today's is one of last year.
+fn year_of_month(today: Clock, month: u8) -> u16
+    ensures { result ≡ Spec.year_of_month today month }
+{
+    if today.month() < month {
+        today.year().saturating_sub(1)
+    } else {
+        today.year()
+    }
+}
+
+/// The seconds that a clock has counted when it shows these fields, where the date is today's as far as it is not said.
+#[tactic(auto, unfolding(crate::specs::filled_seconds))]
+pub(crate) fn filled_seconds(today: Clock, fields: Fields) -> Option<i64>
+    ensures value { result ≡ Spec.filled_seconds today fields }
+    ensures small { IfSome result (λ s. IsBetween (neg_ℤ (pos (10 ^ 16))) (pos (10 ^ 16)) s) }
+{
+    let hour = fields.hour?;
+    let minute = fields.minute?;
+    let second = fields.second?;
+    let month = fields.month.unwrap_or(today.month());
+    let year = fields.year.unwrap_or(year_of_month(today, month));
+    let day = fields.day.unwrap_or(today.day());
+    let start = first_second(year, month)?;
+    Some(seconds_after(start, Some(day), hour, minute, second))
 }

@@ -1,8 +1,7 @@
 //! Dates: their years, the seconds that fields come to, and dates of three numbers or of two.
 ghost use Rattle.std.specs.Prelude.{◌≡◌, ◌<◌, ◌^◌, ◌*ℤ◌, pos, negsuc, neg_ℤ, IfSome};
 ghost use Rattle.jiff_core.specs.Calendar.{IsBetween};
-ghost use Rattle.git_date.specs.Approximate.Clocks.{first_second, is_shown_month};
-ghost use Rattle.git_date.specs.Rules.Dates.{year_said, is_day_of_month, is_month, month_start, days_after_first, seconds_of_day, seconds_after, IsSmall, exact_seconds, now_at, is_ahead, recent_date, year_date};
+ghost use Rattle.git_date.specs as Spec;
 
 use crate::clocks::utc_year;
 use crate::fields::Fields;
@@ -22,7 +21,7 @@ pub(crate) struct Now {
 
 impl Now {
     pub(crate) fn of(instant: Timestamp) -> Now
-        ensures { result ≡ now_at instant.nanosecond }
+        ensures { result ≡ Spec.now_at instant.nanosecond }
     {
         let seconds = instant.as_second();
         Now {
@@ -44,9 +43,9 @@ pub(crate) enum Dated {
 }
 
 /// The year that a number says in a date.
-#[tactic(auto, unfolding(crate::specs::Rules::Dates::year_said))]
+#[tactic(auto, unfolding(crate::specs::year_said))]
 fn year_said(n: u64) -> Option<u16>
-    ensures { result ≡ year_said n }
+    ensures { result ≡ Spec.year_said n }
 {
     if 1970 <= n && n <= 2099 {
         Some(n as u16)
@@ -63,29 +62,30 @@ fn year_said(n: u64) -> Option<u16>
 
 /// Whether some month of the calendar has this day.
 fn is_day_of_month(month: u64, day: u64) -> bool
-    ensures { result ≡ is_day_of_month month day }
+    ensures { result ≡ Spec.is_day_of_month month day }
 {
     1 <= month && month <= 12 && 1 <= day && day <= 31
 }
 
 /// Whether this is a month of the years that Git knows.
 fn is_month(year: u16, month: u8) -> bool
-    ensures { result ≡ is_month year month }
+    ensures { result ≡ Spec.is_month year month }
 {
     1970 <= year && year <= 2099 && 1 <= month && month <= 12
 }
 
 /// Whether this is a month of the years from 1900 to 9999.
 fn is_shown_month(year: u16, month: u8) -> bool
-    ensures { result ≡ is_shown_month year month }
+    ensures { result ≡ Spec.is_shown_month year month }
 {
     1900 <= year && year <= 9999 && 1 <= month && month <= 12
 }
 
 /// The first second of such a month by a clock.
+#[tactic(auto, using(gix_date::proofs::Text::Ints::held, jiff_core::proofs::SignedLemmas::signed_arith, gix_date::proofs::Fields::Instants::instant_holds), unfolding(crate::specs::first_second))]
 pub(crate) fn first_second(year: u16, month: u8) -> Option<i64>
-    ensures value { result ≡ first_second year month }
-    ensures small { IfSome result IsSmall }
+    ensures value { result ≡ Spec.first_second year month }
+    ensures small { IfSome result Spec.IsSmall }
 {
     if !is_shown_month(year, month) {
         return None;
@@ -99,8 +99,8 @@ pub(crate) fn first_second(year: u16, month: u8) -> Option<i64>
 /// The first second of a month of the years that Git knows.
 #[tactic(auto, using(crate::proofs::Rules::Months::a_month, crate::proofs::Rules::Months::no_month))]
 fn month_start(year: u16, month: u8) -> Option<i64>
-    ensures value { result ≡ month_start year month }
-    ensures small { IfSome result IsSmall }
+    ensures value { result ≡ Spec.month_start year month }
+    ensures small { IfSome result Spec.IsSmall }
 {
     if is_month(year, month) {
         first_second(year, month)
@@ -111,7 +111,7 @@ fn month_start(year: u16, month: u8) -> Option<i64>
 
 /// The seconds since the first of a month. An unknown day is two days before it.
 fn day_seconds(day: Option<u8>) -> i64
-    ensures value { result ≡ pos 86_400 *ℤ days_after_first day }
+    ensures value { result ≡ pos 86_400 *ℤ Spec.days_after_first day }
     ensures small { IsBetween (negsuc 172_799) (pos 22_032_000) result }
 {
     match day {
@@ -121,7 +121,7 @@ fn day_seconds(day: Option<u8>) -> i64
 }
 
 fn clock_seconds(hour: u8, minute: u8, second: u8) -> u32
-    ensures value { result ≡ seconds_of_day hour minute second }
+    ensures value { result ≡ Spec.seconds_of_day hour minute second }
     ensures small { result < 1_000_000 }
 {
     SECONDS_PER_HOUR as u32 * u32::from(hour)
@@ -130,17 +130,17 @@ fn clock_seconds(hour: u8, minute: u8, second: u8) -> u32
 }
 
 pub(crate) fn seconds_after(start: i64, day: Option<u8>, hour: u8, minute: u8, second: u8) -> i64
-    requires { IsSmall start }
-    ensures value { result ≡ seconds_after start day hour minute second }
+    requires { Spec.IsSmall start }
+    ensures value { result ≡ Spec.seconds_after start day hour minute second }
     ensures small { IsBetween (neg_ℤ (pos (10 ^ 16))) (pos (10 ^ 16)) result }
 {
     start + (day_seconds(day) + i64::from(clock_seconds(hour, minute, second)))
 }
 
 /// The seconds that a clock has counted when it shows these fields, where all but the day are known.
-#[tactic(auto, unfolding(crate::specs::Rules::Dates::exact_seconds))]
+#[tactic(auto, unfolding(crate::specs::exact_seconds))]
 pub(crate) fn exact_seconds(fields: Fields) -> Option<i64>
-    ensures value { result ≡ exact_seconds fields }
+    ensures value { result ≡ Spec.exact_seconds fields }
     ensures small { IfSome result (λ s. IsBetween (neg_ℤ (pos (10 ^ 16))) (pos (10 ^ 16)) s) }
 {
     let year = fields.year?;
@@ -152,15 +152,8 @@ pub(crate) fn exact_seconds(fields: Fields) -> Option<i64>
     Some(seconds_after(start, fields.day, hour, minute, second))
 }
 
-/// Whether a date is more than ten days after now, with the clock that was read before it.
-fn is_ahead(now: Now, fields: Fields) -> bool
-    ensures { result ≡ is_ahead now fields }
-{
-    exact_seconds(fields).is_some_and(|seconds| now.seconds < seconds - 10 * SECONDS_PER_DAY)
-}
-
-/// A month, a day and perhaps a year, if that is not ahead.
-#[tactic(auto, unfolding(crate::specs::Rules::Dates::recent_date))]
+/// A month, a day and perhaps a year, if that is at most ten days after now, with the clock that was read before it.
+#[tactic(auto, unfolding(crate::specs::recent_date))]
 pub(crate) fn recent_date(
     now: Now,
     fields: Fields,
@@ -168,7 +161,7 @@ pub(crate) fn recent_date(
     day: u64,
     third: Option<u64>,
 ) -> Option<Fields>
-    ensures { result ≡ recent_date now fields month day third }
+    ensures { result ≡ Spec.recent_date now fields month day third }
 {
     if !is_day_of_month(month, day) {
         return None;
@@ -183,7 +176,7 @@ pub(crate) fn recent_date(
         day: Some(day as u8),
         ..fields
     };
-    if is_ahead(now, dated) {
+    if exact_seconds(dated).is_some_and(|seconds| now.seconds < seconds - 10 * SECONDS_PER_DAY) {
         return None;
     }
     match third {
@@ -196,9 +189,9 @@ pub(crate) fn recent_date(
 }
 
 /// A year, a month and a day, which may be ahead.
-#[tactic(auto, unfolding(crate::specs::Rules::Dates::year_date))]
+#[tactic(auto, unfolding(crate::specs::year_date))]
 pub(crate) fn year_date(fields: Fields, year: u64, month: u64, day: u64) -> Dated
-    ensures { result ≡ year_date fields year month day }
+    ensures { result ≡ Spec.year_date fields year month day }
 {
     if !is_day_of_month(month, day) {
         return Dated::Refused;

@@ -1,12 +1,9 @@
 //! What digits say.
-ghost use Rattle.std.specs.Prelude.{◌≡◌, ◌≤◌, ◌<◌, length, IfOk, IfSome};
-ghost use Rattle.git_date.specs.Tokens.Tokens.{tokens};
-ghost use Rattle.git_date.specs.Rules.Digits.{is_epoch, epoch_rule, eight_digits, six_digits, four_digits, two_digit_year, or_month, few_digits, bare_digits, group_said, digits_rule};
-ghost use Rattle.git_date.specs.Tokens.Numbers.{number};
-ghost use Rattle.git_date.specs.Rules.Views.{rest_view, step_view, said_view};
+ghost use Rattle.std.specs.Prelude.{◌≡◌, ◌≤◌, length, IfOk, IfSome};
+ghost use Rattle.git_date.specs as Spec;
 
 use crate::clocks::utc_clock;
-use crate::fault::Fault;
+use crate::error::Fault;
 use crate::fields::Fields;
 use crate::fields::dates::{Dated, Now, year_date};
 use crate::fields::groups::{group_of, without_fraction};
@@ -19,16 +16,9 @@ pub(crate) type Stepped<'a> = Result<(Option<Fields>, &'a [u8]), Fault>;
 /// The least number that may be seconds since 1970: eight digits may be a date.
 const MIN_EPOCH: u64 = 100_000_000;
 
-/// Whether a number is seconds since 1970: one so large, where nothing is known.
-fn is_epoch(fields: Fields, n: u64) -> bool
-    ensures { result ≡ is_epoch fields n }
-{
-    MIN_EPOCH <= n && fields.knows_nothing()
-}
-
 /// The fields of an epoch, by the clock of UTC. Its seconds are those of the instant: an offset after it does not change them.
 fn epoch_rule<'a>(fields: Fields, n: u64, text: &'a [u8]) -> Stepped<'a>
-    ensures value { step_view result ≡ epoch_rule fields n (tokens text.now) }
+    ensures value { Spec.step_view result ≡ Spec.epoch_rule fields n (Spec.tokens text.now) }
     ensures shorter { IfOk result (λ found. length found.1.now ≤ length text.now) }
 {
     match utc_clock(n) {
@@ -51,8 +41,8 @@ fn epoch_rule<'a>(fields: Fields, n: u64, text: &'a [u8]) -> Stepped<'a>
 
 /// Eight digits are a date, which begins with its year, as in `20080214T203045`.
 fn eight_digits<'a>(fields: Fields, n: u64, run: &[u8], text: &'a [u8]) -> Stepped<'a>
-    requires { n ≡ number run.now }
-    ensures value { step_view result ≡ eight_digits fields run.now (tokens text.now) }
+    requires { n ≡ Spec.number run.now }
+    ensures value { Spec.step_view result ≡ Spec.eight_digits fields run.now (Spec.tokens text.now) }
     ensures shorter { IfOk result (λ found. length found.1.now ≤ length text.now) }
 {
     match year_date(fields, n / 10_000, n / 100 % 100, n % 100) {
@@ -64,7 +54,7 @@ fn eight_digits<'a>(fields: Fields, n: u64, run: &[u8], text: &'a [u8]) -> Stepp
 
 /// Six digits are a clock, as in `20080214T203045.019`, and a fraction after it is taken.
 fn six_digits<'a>(fields: Fields, n: u64, text: &'a [u8]) -> (Option<Fields>, &'a [u8])
-    ensures value { rest_view result ≡ six_digits fields n (tokens text.now) }
+    ensures value { Spec.rest_view result ≡ Spec.six_digits fields n (Spec.tokens text.now) }
     ensures shorter { length result.1.now ≤ length text.now }
 {
     let found = fields.with_clock(n / 10_000, n / 100 % 100, n % 100);
@@ -78,9 +68,9 @@ fn six_digits<'a>(fields: Fields, n: u64, text: &'a [u8]) -> (Option<Fields>, &'
 
 impl Fields {
     /// With what four digits say: first an offset, so that after `10:00` Git reads `1030` as one.
-    #[tactic(auto, unfolding(crate::specs::Rules::Digits::four_digits))]
+    #[tactic(auto, unfolding(crate::specs::four_digits))]
     fn four_digits(self, n: u64) -> Option<Fields>
-        ensures { result ≡ four_digits self n }
+        ensures { result ≡ Spec.four_digits self n }
     {
         if n <= 1400 && self.offset.is_none() {
             Some(Fields {
@@ -99,7 +89,7 @@ impl Fields {
 
     /// The year that two digits say. In Git `1 Apr 05` has one, and `1 Apr 15` has none.
     fn two_digit_year(self, n: u64) -> Option<u16>
-        ensures { result ≡ two_digit_year self n }
+        ensures { result ≡ Spec.two_digit_year self n }
     {
         if self.year.is_some() {
             None
@@ -113,7 +103,7 @@ impl Fields {
     }
 
     fn or_month(self, n: u64) -> Option<Fields>
-        ensures { result ≡ or_month self n }
+        ensures { result ≡ Spec.or_month self n }
     {
         if 1 <= n && n <= 12 && self.month.is_none() {
             Some(Fields {
@@ -126,9 +116,9 @@ impl Fields {
     }
 
     /// With what one digit or two say.
-    #[tactic(auto, unfolding(crate::specs::Rules::Digits::few_digits))]
+    #[tactic(auto, unfolding(crate::specs::few_digits))]
     fn few_digits(self, width: usize, n: u64) -> Option<Fields>
-        ensures { result ≡ few_digits self width n }
+        ensures { result ≡ Spec.few_digits self width n }
     {
         if 1 <= n && n <= 31 && self.day.is_none() {
             return Some(Fields {
@@ -152,10 +142,10 @@ impl Fields {
 }
 
 /// What digits say that are no group, by their width.
-#[tactic(auto, unfolding(crate::specs::Rules::Digits::bare_digits))]
+#[tactic(auto, unfolding(crate::specs::bare_digits))]
 fn bare_digits<'a>(fields: Fields, n: u64, run: &[u8], text: &'a [u8]) -> Stepped<'a>
-    requires { n ≡ number run.now }
-    ensures value { step_view result ≡ bare_digits fields run.now (tokens text.now) }
+    requires { n ≡ Spec.number run.now }
+    ensures value { Spec.step_view result ≡ Spec.bare_digits fields run.now (Spec.tokens text.now) }
     ensures shorter { IfOk result (λ found. length found.1.now ≤ length text.now) }
 {
     match run.len() {
@@ -169,7 +159,7 @@ fn bare_digits<'a>(fields: Fields, n: u64, run: &[u8], text: &'a [u8]) -> Steppe
 
 /// What the group says that begins with these digits, and what stands after it; `None` if there is none, or it is refused. A date
 /// whose year Git refuses refuses the text here, since Git keeps its month and day.
-#[tactic(auto, unfolding(crate::specs::Rules::Digits::group_said))]
+#[tactic(auto, unfolding(crate::specs::group_said))]
 pub(crate) fn group_said<'a>(
     now: Now,
     fields: Fields,
@@ -177,8 +167,8 @@ pub(crate) fn group_said<'a>(
     run: &[u8],
     text: &'a [u8],
 ) -> Result<Option<(Fields, &'a [u8])>, Fault>
-    requires { n ≡ number run.now }
-    ensures value { said_view result ≡ group_said now fields run.now (tokens text.now) }
+    requires { n ≡ Spec.number run.now }
+    ensures value { Spec.said_view result ≡ Spec.group_said now fields run.now (Spec.tokens text.now) }
     ensures shorter { IfOk result (λ said. IfSome said (λ found. length found.1.now ≤ length text.now)) }
 {
     let Some((group, rest)) = group_of(n, text) else {
@@ -199,13 +189,13 @@ pub(crate) fn group_said<'a>(
 }
 
 /// What digits say. Git cuts numbers that 32 bits do not hold, but not an epoch.
-#[tactic(auto, unfolding(crate::specs::Rules::Digits::digits_rule))]
+#[tactic(auto, unfolding(crate::specs::digits_rule))]
 pub(crate) fn digits_rule<'a>(now: Now, fields: Fields, run: &[u8], text: &'a [u8]) -> Stepped<'a>
-    ensures value { step_view result ≡ digits_rule now fields run.now (tokens text.now) }
+    ensures value { Spec.step_view result ≡ Spec.digits_rule now fields run.now (Spec.tokens text.now) }
     ensures shorter { IfOk result (λ found. length found.1.now ≤ length text.now) }
 {
     let n = number(run);
-    if is_epoch(fields, n) {
+    if MIN_EPOCH <= n && fields.knows_nothing() {
         return epoch_rule(fields, n, text);
     }
     if is_too_large(n) {

@@ -1,8 +1,6 @@
 //! Groups: two numbers or three, with the same mark between them.
 ghost use Rattle.std.specs.Prelude.{◌≡◌, ◌≤◌, ◌<◌, length, IfSome};
-ghost use Rattle.git_date.specs.Tokens.Tokens.{tokens};
-ghost use Rattle.git_date.specs.Rules.Groups.{number_at, marked_number, group_of, second_of, third_of, clock_group, year_first_group, day_month_group, group_rule, large_number, large_in, without_fraction, after_group};
-ghost use Rattle.git_date.specs.Rules.Views.{read_view};
+ghost use Rattle.git_date.specs as Spec;
 
 use crate::fields::Fields;
 use crate::fields::dates::{Dated, Now, recent_date, year_date};
@@ -27,7 +25,7 @@ pub(crate) struct Group {
 
 /// The number of these digits, by the text after them.
 fn number_at(run: &[u8], text: &[u8]) -> Number
-    ensures { result ≡ number_at run.now (tokens text.now) }
+    ensures { result ≡ Spec.number_at run.now (Spec.tokens text.now) }
 {
     Number {
         value: number(run),
@@ -36,9 +34,9 @@ fn number_at(run: &[u8], text: &[u8]) -> Number
 }
 
 /// A mark and the number after it.
-#[tactic(auto, unfolding(crate::specs::Rules::Groups::marked_number))]
+#[tactic(auto, unfolding(crate::specs::marked_number))]
 fn marked_number(text: &[u8]) -> Option<((u8, Number), &[u8])>
-    ensures value { read_view result ≡ marked_number (tokens text.now) }
+    ensures value { Spec.read_view result ≡ Spec.marked_number (Spec.tokens text.now) }
     ensures shorter { IfSome result (λ found. length found.1.now < length text.now) }
 {
     let Some((Token::Mark(mark), rest)) = next_token(text) else {
@@ -51,9 +49,9 @@ fn marked_number(text: &[u8]) -> Option<((u8, Number), &[u8])>
 }
 
 /// The group that begins with a number, by the text after that.
-#[tactic(auto, unfolding(crate::specs::Rules::Groups::group_of))]
+#[tactic(auto, unfolding(crate::specs::group_of))]
 pub(crate) fn group_of(first: u64, text: &[u8]) -> Option<(Group, &[u8])>
-    ensures value { read_view result ≡ group_of first (tokens text.now) }
+    ensures value { Spec.read_view result ≡ Spec.group_of first (Spec.tokens text.now) }
     ensures shorter { IfSome result (λ found. length found.1.now < length text.now) }
 {
     let ((mark, second), rest) = marked_number(text)?;
@@ -79,7 +77,7 @@ pub(crate) fn group_of(first: u64, text: &[u8]) -> Option<(Group, &[u8])>
 }
 
 fn large_number(n: Number) -> Option<usize>
-    ensures { result ≡ large_number n }
+    ensures { result ≡ Spec.large_number n }
 {
     is_too_large(n.value).then_some(n.left)
 }
@@ -87,21 +85,21 @@ fn large_number(n: Number) -> Option<usize>
 impl Group {
     /// The second number as Git's dates keep it, in 32 bits.
     fn second_of(self) -> u64
-        ensures { result ≡ second_of self }
+        ensures { result ≡ Spec.second_of self }
     {
         narrow(self.second.value)
     }
 
     /// The third number as Git's dates keep it, in 32 bits.
     fn third_of(self) -> Option<u64>
-        ensures { result ≡ third_of self }
+        ensures { result ≡ Spec.third_of self }
     {
         Some(narrow(self.third?.value))
     }
 
     /// How many bytes are left from the first number on that is too large: Git would cut it.
     pub(crate) fn large_in(self) -> Option<usize>
-        ensures { result ≡ large_in self }
+        ensures { result ≡ Spec.large_in self }
     {
         if let Some(left) = large_number(self.second) {
             return Some(left);
@@ -110,18 +108,17 @@ impl Group {
     }
 
     fn clock_group(self, fields: Fields) -> Dated
-        ensures { result ≡ clock_group fields self }
+        ensures { result ≡ Spec.clock_group fields self }
     {
         let second = self.third.map_or(0, |third| third.value);
-        match fields.with_clock(self.first, self.second.value, second) {
-            Some(next) => Dated::Taken(next),
-            None => Dated::Refused,
-        }
+        fields
+            .with_clock(self.first, self.second.value, second)
+            .map_or(Dated::Refused, Dated::Taken)
     }
 
     /// Year, month, day (`YYYY.MM.DD` in git-commit's manual), or else year, day, month.
     fn year_first_group(self, fields: Fields) -> Dated
-        ensures { result ≡ year_first_group fields self }
+        ensures { result ≡ Spec.year_first_group fields self }
     {
         let second = self.second_of();
         let Some(third) = self.third_of() else {
@@ -129,16 +126,15 @@ impl Group {
         };
         match year_date(fields, self.first, second, third) {
             Dated::Refused => year_date(fields, self.first, third, second),
-            Dated::Taken(next) => Dated::Taken(next),
-            Dated::YearRefused => Dated::YearRefused,
+            dated => dated,
         }
     }
 
     /// `MM/DD/YYYY` or `DD.MM.YYYY`, as in git-commit's manual, perhaps without a year. What is no such date, or is too far ahead,
     /// is read the other way round: in August `10/09/2009` is in September.
-    #[tactic(auto, unfolding(crate::specs::Rules::Groups::day_month_group))]
+    #[tactic(auto, unfolding(crate::specs::day_month_group))]
     fn day_month_group(self, now: Now, fields: Fields) -> Dated
-        ensures { result ≡ day_month_group now fields self }
+        ensures { result ≡ Spec.day_month_group now fields self }
     {
         let month_first = recent_date(now, fields, self.first, self.second_of(), self.third_of());
         let day_first = recent_date(now, fields, self.second_of(), self.first, self.third_of());
@@ -147,16 +143,13 @@ impl Group {
         } else {
             month_first.or(day_first)
         };
-        match found {
-            Some(next) => Dated::Taken(next),
-            None => Dated::Refused,
-        }
+        found.map_or(Dated::Refused, Dated::Taken)
     }
 
     /// What a group says. A first number above 70 may be a year: 71 is 1971.
-    #[tactic(auto, unfolding(crate::specs::Rules::Groups::group_rule))]
+    #[tactic(auto, unfolding(crate::specs::group_rule))]
     pub(crate) fn rule(self, now: Now, fields: Fields) -> Dated
-        ensures { result ≡ group_rule now fields self }
+        ensures { result ≡ Spec.group_rule now fields self }
     {
         if self.mark == b':' {
             return self.clock_group(fields);
@@ -166,14 +159,13 @@ impl Group {
         }
         match self.year_first_group(fields) {
             Dated::Refused => self.day_month_group(now, fields),
-            Dated::Taken(next) => Dated::Taken(next),
-            Dated::YearRefused => Dated::YearRefused,
+            dated => dated,
         }
     }
 
     /// What stands after a group, which led to these fields. In Git a fraction follows only a known date: before one `.5` is a day.
     pub(crate) fn after_group(self, next: Fields, text: &[u8]) -> &[u8]
-        ensures value { tokens result.now ≡ after_group next self (tokens text.now) }
+        ensures value { Spec.tokens result.now ≡ Spec.after_group next self (Spec.tokens text.now) }
         ensures shorter { length result.now ≤ length text.now }
     {
         if self.mark == b':' && next.knows_date() {
@@ -185,9 +177,9 @@ impl Group {
 }
 
 /// What stands after a dot and digits, or else all. Fractions of a second are ignored, as git-commit's manual says.
-#[tactic(auto, unfolding(crate::specs::Rules::Groups::without_fraction))]
+#[tactic(auto, unfolding(crate::specs::without_fraction))]
 pub(crate) fn without_fraction(text: &[u8]) -> &[u8]
-    ensures value { tokens result.now ≡ without_fraction (tokens text.now) }
+    ensures value { Spec.tokens result.now ≡ Spec.without_fraction (Spec.tokens text.now) }
     ensures shorter { length result.now ≤ length text.now }
 {
     let Some((Token::Mark(mark), rest)) = next_token(text) else {

@@ -1,14 +1,12 @@
 //! Offsets after a sign, and `@` with its seconds and offset.
 ghost use Rattle.std.specs.Prelude.{◌≡◌, ◌≤◌, ◌<◌, length, IfSome, IfOk};
-ghost use Rattle.git_date.specs.Tokens.Tokens.{tokens, token_of};
-ghost use Rattle.git_date.specs.Rules.Offsets.{is_white, white, without_white, padded_by, padded_after, padded_number, signed_minutes, offset_minutes, colon_minutes, two_digit_offset, offset_said, known_minutes, with_offset, offset_rule, ends, wide_minutes, by_sign, at_text};
-ghost use Rattle.git_date.specs.Rules.Views.{rest_view, read_view, step_view, IsOffset};
+ghost use Rattle.git_date.specs as Spec;
 
-use crate::fault::Fault;
+use crate::error::Fault;
 use crate::fields::Fields;
 use crate::fields::digits::Stepped;
 use crate::tokens::numbers::{is_too_large, number};
-use crate::tokens::{Token, is_end, left_from, next_token};
+use crate::tokens::{Token, is_end, left_from, next_token, skip_white};
 
 /// A number after white space and perhaps a sign.
 #[derive(Clone, Copy)]
@@ -24,35 +22,10 @@ pub(crate) struct Padded {
 /// What was read of an offset: its minutes, or `None` if it is refused, and what is left to read.
 type SaidOffset<'a> = Result<(Option<i16>, &'a [u8]), Fault>;
 
-fn is_white(token: Token<'_>) -> bool
-    ensures { result ≡ is_white (token_of token.entry) }
-{
-    matches!(token, Token::Mark(byte) if byte == b' ' || (9 <= byte && byte <= 13))
-}
-
-/// How much white space stands first, and what stands after it.
-fn skip_white(text: &[u8]) -> (usize, &[u8])
-    ensures count { result.0 ≡ white (tokens text.now) }
-    ensures rest { tokens result.1.now ≡ without_white (tokens text.now) }
-    ensures shorter { length result.1.now ≤ length text.now }
-    ensures fits { result.0 ≤ length text.now }
-{
-    let mut count = 0usize;
-    let mut rest = text;
-    'white: while let Some((token, after)) = next_token(rest) {
-        if !is_white(token) {
-            return (count, rest);
-        }
-        count += 1;
-        rest = after;
-    }
-    (count, rest)
-}
-
 /// The number of these digits, by the text after them.
 fn padded_by<'a>(negative: bool, before: usize, run: &[u8], text: &'a [u8]) -> (Padded, &'a [u8])
     requires { before ≤ 9_223_372_036_854_775_808 }
-    ensures value { rest_view result ≡ padded_by negative before run.now (tokens text.now) }
+    ensures value { Spec.rest_view result ≡ Spec.padded_by negative before run.now (Spec.tokens text.now) }
     ensures same { result.1.now ≡ text.now }
 {
     let number = Padded {
@@ -67,7 +40,7 @@ fn padded_by<'a>(negative: bool, before: usize, run: &[u8], text: &'a [u8]) -> (
 /// The number that stands after white space of so many bytes.
 fn padded_after(before: usize, text: &[u8]) -> Option<(Padded, &[u8])>
     requires { before < 9_223_372_036_854_775_808 }
-    ensures value { read_view result ≡ padded_after before (tokens text.now) }
+    ensures value { Spec.read_view result ≡ Spec.padded_after before (Spec.tokens text.now) }
     ensures shorter { IfSome result (λ found. length found.1.now ≤ length text.now) }
 {
     match next_token(text)? {
@@ -87,9 +60,9 @@ fn padded_after(before: usize, text: &[u8]) -> Option<(Padded, &[u8])>
 }
 
 /// A number after white space and perhaps a sign.
-#[tactic(auto, unfolding(crate::specs::Rules::Offsets::padded_number))]
+#[tactic(auto, unfolding(crate::specs::padded_number))]
 fn padded_number(text: &[u8]) -> Option<(Padded, &[u8])>
-    ensures value { read_view result ≡ padded_number (tokens text.now) }
+    ensures value { Spec.read_view result ≡ Spec.padded_number (Spec.tokens text.now) }
     ensures shorter { IfSome result (λ found. length found.1.now ≤ length text.now) }
 {
     let (before, rest) = skip_white(text);
@@ -99,7 +72,7 @@ fn padded_number(text: &[u8]) -> Option<(Padded, &[u8])>
 /// So many minutes, or so many below 0.
 pub(crate) fn signed_minutes(negative: bool, minutes: u32) -> i16
     requires { minutes < 10_000 }
-    ensures { result ≡ signed_minutes negative minutes }
+    ensures { result ≡ Spec.signed_minutes negative minutes }
 {
     if negative {
         -(minutes as i16)
@@ -109,10 +82,10 @@ pub(crate) fn signed_minutes(negative: bool, minutes: u32) -> i16
 }
 
 /// The minutes of an offset: hours below 24, and minutes below 60.
-#[tactic(auto, unfolding(crate::specs::Rules::Offsets::offset_minutes))]
+#[tactic(auto, unfolding(crate::specs::offset_minutes))]
 fn offset_minutes(hours: u64, negative: bool, minutes: u64) -> Option<i16>
-    ensures value { result ≡ offset_minutes hours negative minutes }
-    ensures small { IfSome result IsOffset }
+    ensures value { result ≡ Spec.offset_minutes hours negative minutes }
+    ensures small { IfSome result Spec.IsOffset }
 {
     if hours < 24 && minutes < 60 {
         Some((60 * hours) as i16 + signed_minutes(negative, minutes as u32))
@@ -123,11 +96,11 @@ fn offset_minutes(hours: u64, negative: bool, minutes: u64) -> Option<i16>
 
 /// The minutes after the colon of an offset: two bytes, with white space and sign. Git counts bytes, so `+05: 3` and `+05:-3` are
 /// offsets.
-#[tactic(auto, unfolding(crate::specs::Rules::Offsets::colon_minutes))]
+#[tactic(auto, unfolding(crate::specs::colon_minutes))]
 fn colon_minutes<'a>(hours: u64, text: &'a [u8]) -> SaidOffset<'a>
-    ensures value { step_view result ≡ colon_minutes hours (tokens text.now) }
+    ensures value { Spec.step_view result ≡ Spec.colon_minutes hours (Spec.tokens text.now) }
     ensures shorter { IfOk result (λ found. length found.1.now ≤ length text.now) }
-    ensures small { IfOk result (λ found. IfSome found.0 IsOffset) }
+    ensures small { IfOk result (λ found. IfSome found.0 Spec.IsOffset) }
 {
     let Some((n, rest)) = padded_number(text) else {
         return Ok((None, text));
@@ -143,11 +116,11 @@ fn colon_minutes<'a>(hours: u64, text: &'a [u8]) -> SaidOffset<'a>
 }
 
 /// Two digits after a sign: hours, and minutes after a colon.
-#[tactic(auto, unfolding(crate::specs::Rules::Offsets::two_digit_offset))]
+#[tactic(auto, unfolding(crate::specs::two_digit_offset))]
 fn two_digit_offset<'a>(hours: u64, text: &'a [u8]) -> SaidOffset<'a>
-    ensures value { step_view result ≡ two_digit_offset hours (tokens text.now) }
+    ensures value { Spec.step_view result ≡ Spec.two_digit_offset hours (Spec.tokens text.now) }
     ensures shorter { IfOk result (λ found. length found.1.now ≤ length text.now) }
-    ensures small { IfOk result (λ found. IfSome found.0 IsOffset) }
+    ensures small { IfOk result (λ found. IfSome found.0 Spec.IsOffset) }
 {
     match next_token(text) {
         Some((Token::Mark(b':'), rest)) => colon_minutes(hours, rest),
@@ -156,11 +129,11 @@ fn two_digit_offset<'a>(hours: u64, text: &'a [u8]) -> SaidOffset<'a>
 }
 
 /// The offset after a sign, by its first digits and the text after them.
-#[tactic(auto, unfolding(crate::specs::Rules::Offsets::offset_said))]
+#[tactic(auto, unfolding(crate::specs::offset_said))]
 fn offset_said<'a>(run: &[u8], text: &'a [u8]) -> SaidOffset<'a>
-    ensures value { step_view result ≡ offset_said run.now (tokens text.now) }
+    ensures value { Spec.step_view result ≡ Spec.offset_said run.now (Spec.tokens text.now) }
     ensures shorter { IfOk result (λ found. length found.1.now ≤ length text.now) }
-    ensures small { IfOk result (λ found. IfSome found.0 IsOffset) }
+    ensures small { IfOk result (λ found. IfSome found.0 Spec.IsOffset) }
 {
     let n = number(run);
     if is_too_large(n) {
@@ -173,22 +146,16 @@ fn offset_said<'a>(run: &[u8], text: &'a [u8]) -> SaidOffset<'a>
     }
 }
 
-/// The offset that is known then. One minute behind UTC is none: by `-0001` Git marks an unknown offset.
-fn known_minutes(minutes: i16) -> Option<i16>
-    ensures { result ≡ known_minutes minutes }
-{
-    (minutes != -1).then_some(minutes)
-}
-
 impl Fields {
-    /// With an offset that is said by a sign, also where one was known.
+    /// With an offset that is said by a sign, also where one was known. One minute behind UTC is none: by `-0001` Git marks an
+    /// unknown offset.
     fn with_offset(self, behind: bool, minutes: i16) -> Fields
-        requires { IsOffset minutes }
-        ensures { result ≡ with_offset self behind minutes }
+        requires { Spec.IsOffset minutes }
+        ensures { result ≡ Spec.with_offset self behind minutes }
     {
         let minutes = if behind { -minutes } else { minutes };
         Fields {
-            offset: known_minutes(minutes),
+            offset: (minutes != -1).then_some(minutes),
             ..self
         }
     }
@@ -201,7 +168,7 @@ pub(crate) fn offset_rule<'a>(
     run: &[u8],
     text: &'a [u8],
 ) -> Stepped<'a>
-    ensures value { step_view result ≡ offset_rule fields behind run.now (tokens text.now) }
+    ensures value { Spec.step_view result ≡ Spec.offset_rule fields behind run.now (Spec.tokens text.now) }
     ensures shorter { IfOk result (λ found. length found.1.now ≤ length text.now) }
 {
     match offset_said(run, text)? {
@@ -212,7 +179,7 @@ pub(crate) fn offset_rule<'a>(
 
 /// Whether a text ends here: nothing more, or a line feed.
 fn ends(text: &[u8]) -> bool
-    ensures { result ≡ ends (tokens text.now) }
+    ensures { result ≡ Spec.ends (Spec.tokens text.now) }
 {
     match next_token(text) {
         Some((token, _)) => is_end(token),
@@ -222,7 +189,7 @@ fn ends(text: &[u8]) -> bool
 
 /// The minutes of the four bytes after a sign: hours by hundreds, without a limit.
 fn wide_minutes(behind: bool, n: Padded, text: &[u8]) -> Option<i16>
-    ensures { result ≡ wide_minutes behind n (tokens text.now) }
+    ensures { result ≡ Spec.wide_minutes behind n (Spec.tokens text.now) }
 {
     if n.width == 4 && n.value < 10_000 && ends(text) {
         let minutes = 60 * (n.value / 100) + n.value % 100;
@@ -233,7 +200,7 @@ fn wide_minutes(behind: bool, n: Padded, text: &[u8]) -> Option<i16>
 }
 
 fn by_sign(mark: u8, text: &[u8]) -> Option<i16>
-    ensures { result ≡ by_sign mark (tokens text.now) }
+    ensures { result ≡ Spec.by_sign mark (Spec.tokens text.now) }
 {
     let behind = match mark {
         b'+' => false,
@@ -245,9 +212,9 @@ fn by_sign(mark: u8, text: &[u8]) -> Option<i16>
 }
 
 /// The seconds and the minutes of offset of `@`, seconds, one space and an offset. So `git commit --date` hands its date on.
-#[tactic(auto, unfolding(crate::specs::Rules::Offsets::at_text))]
+#[tactic(auto, unfolding(crate::specs::at_text))]
 pub(crate) fn at_text(text: &[u8]) -> Option<(u64, i16)>
-    ensures { result ≡ at_text (tokens text.now) }
+    ensures { result ≡ Spec.at_text (Spec.tokens text.now) }
 {
     let Some((Token::Mark(b'@'), rest)) = next_token(text) else {
         return None;

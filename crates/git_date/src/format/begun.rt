@@ -1,9 +1,6 @@
 //! What a percent sign begins, appended where there is room for it.
 ghost use Rattle.std.specs.Prelude.{◌≡◌, ◌++◌, max, IsTrue, IsFalse};
-ghost use Rattle.git_date.specs.Formats.Format.{piece_text};
-ghost use Rattle.git_date.specs.Formats.Pieces.{Begun};
-ghost use Rattle.git_date.specs.Formats.Short.{letter_text, PushesLetter};
-ghost use Rattle.git_date.specs.Formats.Shown.{shown_of};
+ghost use Rattle.git_date.specs as Spec;
 
 use crate::format::chunks::made_chunk;
 use crate::format::directives::Directive;
@@ -33,7 +30,7 @@ pub(crate) fn push_text<const CAP: usize>(out: &mut ArrayString<CAP>, text: &str
 /// Appends what a percent sign begins, if there is room for it. By itself, since it takes a text of its own.
 #[inline(never)]
 fn push_made<const CAP: usize>(out: &mut ArrayString<CAP>, made: Made, shown: &Shown) -> bool
-    ensures pushed { IsTrue result → out.new.bytes ≡ out.old.bytes ++ piece_text (shown_of shown.now) (Begun made) }
+    ensures pushed { IsTrue result → out.new.bytes ≡ out.old.bytes ++ Spec.piece_text (Spec.shown_of shown.now) (Spec.Begun made) }
     ensures kept { IsFalse result → out.new.bytes ≡ out.old.bytes }
 {
     push_text(out, made_chunk(made, shown).as_str())
@@ -45,7 +42,7 @@ pub(crate) fn push_begun<const CAP: usize>(
     made: Made,
     shown: &Shown,
 ) -> bool
-    ensures pushed { IsTrue result → out.new.bytes ≡ out.old.bytes ++ piece_text (shown_of shown.now) (Begun made) }
+    ensures pushed { IsTrue result → out.new.bytes ≡ out.old.bytes ++ Spec.piece_text (Spec.shown_of shown.now) (Spec.Begun made) }
     ensures kept { IsFalse result → out.new.bytes ≡ out.old.bytes }
 {
     let room = CAP - out.len();
@@ -72,13 +69,13 @@ fn most_len(flags: Flags) -> usize
 /// Appends what a letter shows that stands alone after its percent sign. `false` means only that it is no such letter, or that
 /// there is no room: nothing is appended.
 #[inline(never)]
-#[tactic(auto, unfolding(crate::specs::Tokens::Numbers::number))]
+#[tactic(auto, unfolding(crate::specs::number))]
 pub(crate) fn push_alone<const CAP: usize>(
     out: &mut ArrayString<CAP>,
     letter: u8,
     shown: &Shown,
 ) -> bool
-    ensures { PushesLetter (letter_text (shown_of shown.now) letter) out.old.bytes out.new.bytes result }
+    ensures { Spec.PushesLetter (Spec.letter_text (Spec.shown_of shown.now) letter) out.old.bytes out.new.bytes result }
 {
     if is_flag(letter) || letter.is_ascii_digit() {
         return false;

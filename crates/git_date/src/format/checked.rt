@@ -2,7 +2,7 @@
 ghost use Rattle.std.specs.Prelude.{◌≡◌, true};
 ghost use Rattle.git_date.specs.Formats.Pieces.{is_format};
 
-use crate::format::fault::FormatFault;
+use crate::format::error::FormatFault;
 use crate::format::walks::first_fault;
 
 /// A format of [`show_by_format`](crate::show_by_format), checked once.
@@ -19,9 +19,9 @@ impl<'a> DateFormat<'a> {
 
     /// Checks a format: the text after `format:` of `git log --date`.
     ///
-    /// A directive is a percent sign, flags, a width and a letter. `%%`, `%s`, `%z` and `%Z` take no flags and no width. The
-    /// others are `a A b h B p P n t`, `c D x F r R T X` and `C y Y m d e j H k I l M S u w U W V G g`, with the flags
-    /// `_ - 0 ^ #` and a width up to 255. All other text is shown as it is, and may be empty.
+    /// A directive is a percent sign, flags, a width and a letter: docs/GIT_DATES.md has what each shows. `%%`, `%s`, `%z` and
+    /// `%Z` take no flags and no width, the others the flags `_ - 0 ^ #` and a width up to 255. All other text is shown as it
+    /// is, and may be empty.
     ///
     /// The first fault is answered with the place of its percent sign ([`FormatFault`]). Takes no memory.
     #[tactic(auto, using(crate::proofs::Formats::Walks::checked_fault, crate::proofs::Formats::Walks::checked_whole))]

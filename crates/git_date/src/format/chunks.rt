@@ -1,12 +1,8 @@
 //! The text of a piece, lent or made.
 ghost use Rattle.std.specs.Prelude.{◌≡◌, ◌+◌, ◌≤◌, ◌<◌, ◌++◌, unsigned_abs};
 ghost use Rattle.arrayvec.specs.ArrayString.{array_string_len};
-ghost use Rattle.gix_date.specs.Header.Text.{hundred_hours};
-ghost use Rattle.gix_date.specs.Fields.Offsets.{compact_offset_text};
-ghost use Rattle.git_date.specs.Formats.Format.{chunk_text, piece_text, plain_text, seconds_text};
-ghost use Rattle.git_date.specs.Formats.Pieces.{piece_of, Begun};
-ghost use Rattle.git_date.specs.Formats.Shown.{shown_of};
-ghost use Rattle.git_date.specs.Formats.Texts.{directive_text};
+ghost use Rattle.git_date.specs as Spec;
+ghost use Rattle.gix_date.specs as GixDate;
 
 use crate::format::directives::{Directive, Plain};
 use crate::format::flags::{Flags, Part};
@@ -25,7 +21,7 @@ pub(crate) enum Chunk<'t> {
 }
 
 fn seconds_part(seconds: Option<i64>) -> Part
-    ensures { result.bytes ≡ seconds_text seconds }
+    ensures { result.bytes ≡ Spec.seconds_text seconds }
 {
     let mut part = Part::new();
     if let Some(seconds) = seconds {
@@ -34,59 +30,48 @@ fn seconds_part(seconds: Option<i64>) -> Part
     part
 }
 
-fn offset_part(offset: i32) -> Part
-    requires { unsigned_abs offset < hundred_hours }
-    ensures { result.bytes ≡ compact_offset_text offset }
-{
-    let mut part = Part::new();
-    push_offset(&mut part, offset);
-    part
-}
-
 /// Appends `+hhmm`.
 #[inline(always)]
 pub(crate) fn push_offset<const CAP: usize>(part: &mut ArrayString<CAP>, offset: i32)
-    requires short { unsigned_abs offset < hundred_hours }
+    requires short { unsigned_abs offset < GixDate.hundred_hours }
     requires room { array_string_len part.old + 5 ≤ CAP }
-    ensures { part.new.bytes ≡ part.old.bytes ++ compact_offset_text offset }
+    ensures { part.new.bytes ≡ part.old.bytes ++ GixDate.compact_offset_text offset }
 {
     push_hours(part, offset);
     push_minutes(part, offset);
 }
 
-fn directive_part(directive: Directive, flags: Flags, t: Clock) -> Part
-    ensures { result.bytes ≡ directive_text directive flags t }
-{
-    let mut part = Part::new();
-    push_directive(&mut part, directive, flags, t);
-    part
-}
-
 fn plain_chunk<'t>(plain: Plain, shown: &'t Shown) -> Chunk<'t>
-    ensures { chunk_text result ≡ plain_text (shown_of shown.now) plain }
+    ensures { Spec.chunk_text result ≡ Spec.plain_text (Spec.shown_of shown.now) plain }
 {
     match plain {
         Plain::Percent => Chunk::Lent("%"),
         Plain::Seconds => Chunk::Made(seconds_part(shown.seconds)),
-        Plain::Offset => Chunk::Made(offset_part(shown.clock.offset())),
+        Plain::Offset => {
+            let mut part = Part::new();
+            push_offset(&mut part, shown.clock.offset());
+            Chunk::Made(part)
+        }
         Plain::Abbreviation => Chunk::Lent(shown.abbreviation()),
     }
 }
 
 pub(crate) fn made_chunk<'t>(made: Made, shown: &'t Shown) -> Chunk<'t>
-    ensures { chunk_text result ≡ piece_text (shown_of shown.now) (Begun made) }
+    ensures { Spec.chunk_text result ≡ Spec.piece_text (Spec.shown_of shown.now) (Spec.Begun made) }
 {
     match made {
         Made::Plain(plain) => plain_chunk(plain, shown),
         Made::Directive(directive, flags) => {
-            Chunk::Made(directive_part(directive, flags, shown.clock))
+            let mut part = Part::new();
+            push_directive(&mut part, directive, flags, shown.clock);
+            Chunk::Made(part)
         }
     }
 }
 
 /// The text of a piece.
 pub(crate) fn chunk_of<'t>(piece: Piece<'t>, shown: &'t Shown) -> Chunk<'t>
-    ensures { chunk_text result ≡ piece_text (shown_of shown.now) (piece_of piece.entry) }
+    ensures { Spec.chunk_text result ≡ Spec.piece_text (Spec.shown_of shown.now) (Spec.piece_of piece.entry) }
 {
     match piece {
         Piece::Text(text) => Chunk::Lent(text),
@@ -96,7 +81,7 @@ pub(crate) fn chunk_of<'t>(piece: Piece<'t>, shown: &'t Shown) -> Chunk<'t>
 
 impl Chunk<'_> {
     pub(crate) fn as_str(&self) -> &str
-        ensures { result.now ≡ chunk_text self.now }
+        ensures { result.now ≡ Spec.chunk_text self.now }
     {
         match self {
             Chunk::Lent(text) => text,

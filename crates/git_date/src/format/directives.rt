@@ -1,6 +1,8 @@
 //! What the letters after a percent sign stand for.
-ghost use Rattle.std.specs.Prelude.{◌≡◌, ◌<◌, IfSome, IsSome};
-ghost use Rattle.git_date.specs.Formats.Directives.{name_lettered, number_lettered, composite_lettered, plain_lettered, directive_lettered};
+ghost use Rattle.std.specs.Prelude.{◌≡◌};
+ghost use Rattle.git_date.specs as Spec;
+
+use crate::format::numbers::{Number, number_lettered};
 
 /// A text that a clock shows by a name.
 #[derive(Clone, Copy)]
@@ -19,36 +21,6 @@ pub(crate) enum Name {
     SmallHalfDay,
     LineFeed,
     Tab,
-}
-
-/// A number that a clock shows.
-#[derive(Clone, Copy)]
-pub(crate) enum Number {
-    Century,
-    YearOfCentury,
-    Year,
-    Month,
-    Day,
-    /// The day, after a space in place of a zero.
-    SpacedDay,
-    DayOfYear,
-    Hour,
-    SpacedHour,
-    /// The hour from 1 to 12.
-    HourOfHalf,
-    SpacedHourOfHalf,
-    Minute,
-    Second,
-    /// The day of the week from 1 for Monday.
-    DayFromMonday,
-    /// The day of the week from 0 for Sunday.
-    DayFromSunday,
-    /// The week of the year, where weeks begin with Sunday.
-    WeekFromSunday,
-    WeekFromMonday,
-    IsoWeek,
-    IsoYear,
-    IsoYearOfCentury,
 }
 
 /// A text of several names and numbers.
@@ -86,7 +58,7 @@ pub(crate) enum Plain {
 }
 
 fn name_lettered(letter: u8) -> Option<Name>
-    ensures { result ≡ name_lettered letter }
+    ensures { result ≡ Spec.name_lettered letter }
 {
     match letter {
         b'a' => Some(Name::ShortDay),
@@ -101,36 +73,8 @@ fn name_lettered(letter: u8) -> Option<Name>
     }
 }
 
-fn number_lettered(letter: u8) -> Option<Number>
-    ensures { result ≡ number_lettered letter }
-{
-    match letter {
-        b'C' => Some(Number::Century),
-        b'y' => Some(Number::YearOfCentury),
-        b'Y' => Some(Number::Year),
-        b'm' => Some(Number::Month),
-        b'd' => Some(Number::Day),
-        b'e' => Some(Number::SpacedDay),
-        b'j' => Some(Number::DayOfYear),
-        b'H' => Some(Number::Hour),
-        b'k' => Some(Number::SpacedHour),
-        b'I' => Some(Number::HourOfHalf),
-        b'l' => Some(Number::SpacedHourOfHalf),
-        b'M' => Some(Number::Minute),
-        b'S' => Some(Number::Second),
-        b'u' => Some(Number::DayFromMonday),
-        b'w' => Some(Number::DayFromSunday),
-        b'U' => Some(Number::WeekFromSunday),
-        b'W' => Some(Number::WeekFromMonday),
-        b'V' => Some(Number::IsoWeek),
-        b'G' => Some(Number::IsoYear),
-        b'g' => Some(Number::IsoYearOfCentury),
-        _ => None,
-    }
-}
-
 fn composite_lettered(letter: u8) -> Option<Composite>
-    ensures { result ≡ composite_lettered letter }
+    ensures { result ≡ Spec.composite_lettered letter }
 {
     match letter {
         b'c' => Some(Composite::DateAndClock),
@@ -145,7 +89,7 @@ fn composite_lettered(letter: u8) -> Option<Composite>
 
 /// What a letter stands for that takes no flags.
 pub(crate) fn plain_lettered(letter: u8) -> Option<Plain>
-    ensures { result ≡ plain_lettered letter }
+    ensures { result ≡ Spec.plain_lettered letter }
 {
     match letter {
         b'%' => Some(Plain::Percent),
@@ -158,7 +102,7 @@ pub(crate) fn plain_lettered(letter: u8) -> Option<Plain>
 
 /// What a letter stands for that takes flags.
 pub(crate) fn directive_lettered(letter: u8) -> Option<Directive>
-    ensures { result ≡ directive_lettered letter }
+    ensures { result ≡ Spec.directive_lettered letter }
 {
     if let Some(number) = number_lettered(letter) {
         return Some(Directive::Number(number));
@@ -166,8 +110,5 @@ pub(crate) fn directive_lettered(letter: u8) -> Option<Directive>
     if let Some(name) = name_lettered(letter) {
         return Some(Directive::Name(name));
     }
-    match composite_lettered(letter) {
-        Some(composite) => Some(Directive::Composite(composite)),
-        None => None,
-    }
+    Some(Directive::Composite(composite_lettered(letter)?))
 }

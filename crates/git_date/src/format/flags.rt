@@ -1,7 +1,6 @@
-//! Flags and widths of directives, and how texts are filled.
-ghost use Rattle.std.specs.Prelude.{◌≡◌, ◌+◌, ◌≤◌, ◌<◌, ◌++◌, length, max};
-ghost use Rattle.arrayvec.specs.ArrayString.{array_string_len};
-ghost use Rattle.git_date.specs.Formats.Flags.{pad_of, flags_of, is_flag, is_pad, pad_after, has_flag, filled, fill_of, inner_flags};
+//! Flags and widths of directives.
+ghost use Rattle.std.specs.Prelude.{◌≡◌};
+ghost use Rattle.git_date.specs as Spec;
 
 use arrayvec::ArrayString;
 
@@ -37,27 +36,15 @@ pub(crate) struct Flags {
 
 /// Whether a byte is a flag.
 pub(crate) fn is_flag(byte: u8) -> bool
-    ensures { result ≡ is_flag byte }
+    ensures { result ≡ Spec.is_flag byte }
 {
-    is_pad(byte) || byte == b'^' || byte == b'#'
-}
-
-fn is_pad(byte: u8) -> bool
-    ensures { result ≡ is_pad byte }
-{
-    byte == b'_' || byte == b'-' || byte == b'0'
-}
-
-fn has_flag(marks: &[u8], flag: u8) -> bool
-    ensures { result ≡ has_flag marks.now flag }
-{
-    marks.iter().any(|mark| *mark == flag)
+    matches!(byte, b'_' | b'-' | b'0' | b'^' | b'#')
 }
 
 impl Pad {
     /// What fills after one flag more.
     fn after(self, mark: u8) -> Pad
-        ensures { result ≡ pad_after self mark }
+        ensures { result ≡ Spec.pad_after self mark }
     {
         match mark {
             b'-' => Pad::Bare,
@@ -69,7 +56,7 @@ impl Pad {
 
     /// What the last flag says.
     fn of(marks: &[u8]) -> Pad
-        ensures { result ≡ pad_of marks.now }
+        ensures { result ≡ Spec.pad_of marks.now }
     {
         marks.iter().fold(Pad::Unsaid, |pad, mark| pad.after(*mark))
     }
@@ -78,19 +65,19 @@ impl Pad {
 impl Flags {
     /// The flags of these marks, with a width.
     pub(crate) fn of(marks: &[u8], width: u8) -> Flags
-        ensures { result ≡ flags_of marks.now width }
+        ensures { result ≡ Spec.flags_of marks.now width }
     {
         Flags {
             pad: Pad::of(marks),
-            upper: has_flag(marks, b'^'),
-            swap: has_flag(marks, b'#'),
+            upper: marks.contains(&b'^'),
+            swap: marks.contains(&b'#'),
             width,
         }
     }
 
     /// Those of what a composite is made of: upper case alone.
     pub(crate) fn inner(self) -> Flags
-        ensures { result ≡ inner_flags self }
+        ensures { result ≡ Spec.inner_flags self }
     {
         Flags {
             pad: Pad::Unsaid,
@@ -102,26 +89,8 @@ impl Flags {
 
     /// Whether names and composites are filled with zeros.
     pub(crate) fn fills_zeros(self) -> bool
-        ensures { result ≡ fill_of self.pad }
+        ensures { result ≡ Spec.fill_of self.pad }
     {
         matches!(self.pad, Pad::Zeros)
     }
-}
-
-/// Appends a text, with zeros or spaces before it up to a width.
-pub(crate) fn push_filled<const CAP: usize>(
-    part: &mut ArrayString<CAP>,
-    zeros: bool,
-    width: u8,
-    text: &str,
-)
-    requires { array_string_len part.old + max width (length text.now) ≤ CAP }
-    ensures bytes { part.new.bytes ≡ part.old.bytes ++ filled zeros width text.now }
-    ensures len { array_string_len part.new ≡ array_string_len part.old + max width (length text.now) }
-{
-    let fill = if zeros { '0' } else { ' ' };
-    'fills: for _done in 0..usize::from(width).saturating_sub(text.len()) {
-        part.push(fill);
-    }
-    part.push_str(text);
 }

@@ -1,13 +1,11 @@
 //! The pieces of a format, one after the other, without memory.
 ghost use Rattle.std.specs.Prelude.{◌≡◌, ◌≤◌, ◌<◌, length, drop, get_or, IfOk};
-ghost use Rattle.std.specs.List.{prefix_len};
-ghost use Rattle.std.specs.Char.{is_ascii_digit};
-ghost use Rattle.git_date.specs.Formats.Flags.{is_flag};
-ghost use Rattle.git_date.specs.Formats.Pieces.{marks_len, letter_place, made_at, made_by, plain_at, text_len, next_view, next_piece, percent};
+ghost use Rattle.git_date.specs as Spec;
 
 use crate::format::directives::{Directive, Plain, directive_lettered, plain_lettered};
-use crate::format::fault::FormatFault;
+use crate::format::error::FormatFault;
 use crate::format::flags::{Flags, MAX_WIDTH, is_flag};
+use crate::tokens::digits_len;
 use crate::tokens::numbers::number;
 
 /// What a percent sign begins.
@@ -29,7 +27,7 @@ pub(crate) enum Piece<'a> {
 #[inline(always)]
 #[tactic(auto, using(crate::proofs::Formats::Letters::front_fits))]
 fn text_len(text: &[u8]) -> usize
-    ensures value { result ≡ text_len text.now }
+    ensures value { result ≡ Spec.text_len text.now }
     ensures within { result ≤ length text.now }
 {
     text.iter().take_while(|b| **b != b'%').count()
@@ -38,23 +36,15 @@ fn text_len(text: &[u8]) -> usize
 /// How many flags stand first.
 #[tactic(auto, using(crate::proofs::Formats::Letters::front_fits))]
 fn marks_len(text: &[u8]) -> usize
-    ensures value { result ≡ marks_len text.now }
+    ensures value { result ≡ Spec.marks_len text.now }
     ensures within { result ≤ length text.now }
 {
     text.iter().take_while(|b| is_flag(**b)).count()
 }
 
-#[tactic(auto, using(crate::proofs::Formats::Letters::front_fits))]
-fn digits_len(text: &[u8]) -> usize
-    ensures value { result ≡ prefix_len is_ascii_digit text.now }
-    ensures within { result ≤ length text.now }
-{
-    text.iter().take_while(|b| b.is_ascii_digit()).count()
-}
-
 /// A letter that takes no flags, `len` bytes after its percent sign, from which `left` bytes are left.
 fn plain_at(left: usize, len: usize, plain: Plain) -> Result<Made, FormatFault>
-    ensures { result ≡ plain_at left len plain }
+    ensures { result ≡ Spec.plain_at left len plain }
 {
     if len == 0 {
         Ok(Made::Plain(plain))
@@ -70,7 +60,7 @@ pub(crate) fn made_by(
     digits: &[u8],
     letter: u8,
 ) -> Result<Made, FormatFault>
-    ensures { result ≡ made_by left marks.now digits.now letter }
+    ensures { result ≡ Spec.made_by left marks.now digits.now letter }
 {
     if let Some(plain) = plain_lettered(letter) {
         return plain_at(left, marks.len() + digits.len(), plain);
@@ -86,9 +76,9 @@ pub(crate) fn made_by(
 }
 
 /// What stands after a percent sign.
-#[tactic(auto, unfolding(crate::specs::Formats::Pieces::made_at))]
+#[tactic(auto, unfolding(crate::specs::made_at))]
 fn made_at(text: &[u8]) -> Result<Made, FormatFault>
-    ensures { result ≡ made_at text.now }
+    ensures { result ≡ Spec.made_at text.now }
 {
     let left = text.len().saturating_add(1);
     let (marks, rest) = text.split_at(marks_len(text));
@@ -101,7 +91,7 @@ fn made_at(text: &[u8]) -> Result<Made, FormatFault>
 
 /// Where the letter of a directive stands, after its percent sign.
 fn letter_place(text: &[u8]) -> usize
-    ensures value { result ≡ letter_place text.now }
+    ensures value { result ≡ Spec.letter_place text.now }
     ensures within { result ≤ length text.now }
 {
     let (marks, rest) = text.split_at(marks_len(text));
@@ -121,15 +111,12 @@ fn after_first(text: &str) -> &[u8]
 #[tactic(auto, using(crate::proofs::Formats::Pieces::next_fault, crate::proofs::Formats::Pieces::cut_after, crate::proofs::Formats::Pieces::next_made))]
 fn begun(text: &str) -> Result<(Piece<'_>, &str), FormatFault>
     requires there { 0 < length text.now }
-    requires percent { get_or text.now 0 0 ≡ percent }
-    ensures value { next_view result ≡ next_piece text.now }
+    requires percent { get_or text.now 0 0 ≡ Spec.percent }
+    ensures value { Spec.next_view result ≡ Spec.next_piece text.now }
     ensures shorter { IfOk result (λ found. length found.1.now < length text.now) }
 {
     let after = after_first(text);
-    let made = match made_at(after) {
-        Ok(made) => made,
-        Err(fault) => return Err(fault),
-    };
+    let made = made_at(after)?;
     let (_, rest) = text.split_at(letter_place(after) + 2);
     Ok((Piece::Made(made), rest))
 }
@@ -139,7 +126,7 @@ fn begun(text: &str) -> Result<(Piece<'_>, &str), FormatFault>
 #[inline(always)]
 pub(crate) fn next_piece(text: &str) -> Result<(Piece<'_>, &str), FormatFault>
     requires { 0 < length text.now }
-    ensures value { next_view result ≡ next_piece text.now }
+    ensures value { Spec.next_view result ≡ Spec.next_piece text.now }
     ensures shorter { IfOk result (λ found. length found.1.now < length text.now) }
 {
     let place = text_len(text.as_bytes());

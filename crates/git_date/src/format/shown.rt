@@ -1,11 +1,10 @@
 //! What a format shows of a time: its clock, and what Git writes itself.
 ghost use Rattle.std.specs.Prelude.{◌≡◌, ◌<◌, ◌≤ℤ◌, ◌+ℤ◌, ◌-ℤ◌, pos, unsigned_abs, option_map};
 ghost use Rattle.jiff.specs.Words.{plain_zone};
-ghost use Rattle.gix_date.specs.Fields.Zoned.{last_second};
-ghost use Rattle.gix_date.specs.Header.Text.{hundred_hours};
-ghost use Rattle.git_date.specs.Formats.Shown.{own_shown, zone_shown, zone_shown_by, shown_at, shown_of, seconds_said};
+ghost use Rattle.git_date.specs as Spec;
+ghost use Rattle.gix_date.specs as GixDate;
 
-use crate::show::clocks::{own_clock, zone_clock};
+use crate::clocks::{own_clock, zone_clock};
 use gix_date::Time;
 use gix_date::clock::Clock;
 use jiff::Timestamp;
@@ -23,18 +22,14 @@ pub(crate) struct Shown {
 
 /// The seconds of a clock, if Git knows its year.
 fn seconds_said(clock: Clock, seconds: i64) -> Option<i64>
-    ensures { result ≡ seconds_said clock seconds }
+    ensures { result ≡ Spec.seconds_said clock seconds }
 {
-    if 1970 <= clock.year() && clock.year() <= 2099 {
-        Some(seconds)
-    } else {
-        None
-    }
+    (1970 <= clock.year() && clock.year() <= 2099).then_some(seconds)
 }
 
-#[tactic(auto, unfolding(crate::specs::Formats::Shown::own_shown))]
+#[tactic(auto, unfolding(crate::specs::own_shown))]
 pub(crate) fn own_shown(time: Time) -> Option<Shown>
-    ensures { option_map shown_of result ≡ own_shown time }
+    ensures { option_map Spec.shown_of result ≡ Spec.own_shown time }
 {
     let clock = own_clock(time)?;
     Some(Shown {
@@ -47,9 +42,9 @@ pub(crate) fn own_shown(time: Time) -> Option<Shown>
 /// The seconds of a clock at an offset, less the offset that is shown.
 fn counted(seconds: i64, offset: i32, shown: i32) -> i64
     requires from { pos 0 ≤ℤ seconds }
-    requires to { seconds ≤ℤ last_second }
-    requires offset { unsigned_abs offset < hundred_hours }
-    requires shown { unsigned_abs shown < hundred_hours }
+    requires to { seconds ≤ℤ GixDate.last_second }
+    requires offset { unsigned_abs offset < GixDate.hundred_hours }
+    requires shown { unsigned_abs shown < GixDate.hundred_hours }
     ensures { result ≡ seconds +ℤ (offset -ℤ shown) }
 {
     seconds + i64::from(offset - shown)
@@ -59,8 +54,8 @@ fn counted(seconds: i64, offset: i32, shown: i32) -> i64
 #[tactic(auto, using(gix_date::proofs::Text::Ints::held, crate::proofs::Formats::Shown::same_shown, crate::proofs::Formats::Shown::abbreviation_is))]
 fn zone_shown_by(clock: Clock, seconds: i64, zone: TimeZone<'_>) -> Shown
     requires from { pos 0 ≤ℤ seconds }
-    requires to { seconds ≤ℤ last_second }
-    ensures { shown_of result ≡ zone_shown_by (plain_zone zone.entry) seconds clock }
+    requires to { seconds ≤ℤ GixDate.last_second }
+    ensures { Spec.shown_of result ≡ Spec.zone_shown_by (plain_zone zone.entry) seconds clock }
 {
     let Ok(instant) = Timestamp::from_second(seconds) else {
         unreachable!()
@@ -75,17 +70,14 @@ fn zone_shown_by(clock: Clock, seconds: i64, zone: TimeZone<'_>) -> Shown
 
 #[tactic(auto, using(gix_date::proofs::Text::Ints::held, crate::proofs::Formats::Shown::no_clock, crate::proofs::Printing::ShownClocks::zone_dated, crate::proofs::Formats::Shown::clock_dated, crate::proofs::Formats::Shown::a_clock))]
 fn zone_shown(seconds: i64, zone: TimeZone<'_>) -> Option<Shown>
-    ensures { option_map shown_of result ≡ zone_shown (plain_zone zone.entry) seconds }
+    ensures { option_map Spec.shown_of result ≡ Spec.zone_shown (plain_zone zone.entry) seconds }
 {
-    match zone_clock(seconds, zone) {
-        Some(clock) => Some(zone_shown_by(clock, seconds, zone)),
-        None => None,
-    }
+    Some(zone_shown_by(zone_clock(seconds, zone)?, seconds, zone))
 }
 
 /// What a format shows of a time: by the zone's clock, or by the time's own.
 pub(crate) fn shown_at(time: Time, local: bool, zone: TimeZone<'_>) -> Option<Shown>
-    ensures { option_map shown_of result ≡ shown_at (plain_zone zone.entry) local time }
+    ensures { option_map Spec.shown_of result ≡ Spec.shown_at (plain_zone zone.entry) local time }
 {
     if local {
         zone_shown(time.seconds, zone)
@@ -97,7 +89,7 @@ pub(crate) fn shown_at(time: Time, local: bool, zone: TimeZone<'_>) -> Option<Sh
 impl Shown {
     /// The zone's abbreviation. The time's own clock has none.
     pub(crate) fn abbreviation(&self) -> &str
-        ensures { result.now ≡ (shown_of self.now).abbreviation }
+        ensures { result.now ≡ (Spec.shown_of self.now).abbreviation }
     {
         match &self.info {
             Some(info) => info.abbreviation(),

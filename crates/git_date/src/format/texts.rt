@@ -1,14 +1,19 @@
 //! The texts of directives.
-ghost use Rattle.std.specs.Prelude.{◌≡◌, ◌+◌, ◌*◌, ◌≤◌, ◌<◌, ◌++◌, length, max};
+ghost use Rattle.std.specs.Prelude.{◌≡◌, ◌+◌, ◌≤◌, ◌<◌, ◌++◌, length, max, true};
+ghost use Rattle.std.specs.Char.{is_ascii};
+ghost use Rattle.std.specs.List.{list_all};
 ghost use Rattle.arrayvec.specs.ArrayString.{array_string_len};
-ghost use Rattle.git_date.specs.Formats.Flags.{inner_flags};
-ghost use Rattle.git_date.specs.Formats.Texts.{mark_code, inner_of, inner_text, inner_texts, number_width, number_zeros, number_text, name_said, composite_text, directive_text};
+ghost use Rattle.git_date.specs as Spec;
 
-use crate::format::directives::{Composite, Directive, Name, Number};
-use crate::format::flags::{Flags, Pad, Part, push_filled};
-use crate::format::names::cased_name;
+use crate::format::directives::{Composite, Directive, Name};
+use crate::format::flags::{Flags, Pad, Part};
+use crate::format::names::Case;
+use crate::format::numbers::Number;
 use arrayvec::ArrayString;
 use gix_date::clock::Clock;
+
+/// A name in its letter case: at most `Wednesday` or `September`.
+type CasedName = ArrayString<9>;
 
 /// A character of a composite.
 #[derive(Clone, Copy)]
@@ -47,45 +52,32 @@ const MINUTE: Inner = Inner::Number(Number::Minute);
 
 const SECOND: Inner = Inner::Number(Number::Second);
 
+const WEEKDAY: Inner = Inner::Name(Name::ShortDay);
+
+const MONTH_NAME: Inner = Inner::Name(Name::ShortMonth);
+
+const SPACED_DAY: Inner = Inner::Number(Number::SpacedDay);
+
+const SHORT_YEAR: Inner = Inner::Number(Number::YearOfCentury);
+
+const HALF_HOUR: Inner = Inner::Number(Number::HourOfHalf);
+
+const HALF_DAY: Inner = Inner::Name(Name::HalfDay);
+
 /// `%a %b %e %H:%M:%S %Y`
 const DATE_AND_CLOCK: [Inner; 13] = [
-    Inner::Name(Name::ShortDay),
-    SPACE,
-    Inner::Name(Name::ShortMonth),
-    SPACE,
-    Inner::Number(Number::SpacedDay),
-    SPACE,
-    HOUR,
-    COLON,
-    MINUTE,
-    COLON,
-    SECOND,
-    SPACE,
-    YEAR,
+    WEEKDAY, SPACE, MONTH_NAME, SPACE, SPACED_DAY, SPACE, HOUR, COLON, MINUTE, COLON, SECOND,
+    SPACE, YEAR,
 ];
 
 /// `%m/%d/%y`
-const SLASHED_DATE: [Inner; 5] = [
-    MONTH,
-    SLASH,
-    DAY,
-    SLASH,
-    Inner::Number(Number::YearOfCentury),
-];
+const SLASHED_DATE: [Inner; 5] = [MONTH, SLASH, DAY, SLASH, SHORT_YEAR];
 
 /// `%Y-%m-%d`
 const ISO_DATE: [Inner; 5] = [YEAR, MINUS, MONTH, MINUS, DAY];
 
 /// `%I:%M:%S %p`
-const CLOCK_OF_HALF: [Inner; 7] = [
-    Inner::Number(Number::HourOfHalf),
-    COLON,
-    MINUTE,
-    COLON,
-    SECOND,
-    SPACE,
-    Inner::Name(Name::HalfDay),
-];
+const CLOCK_OF_HALF: [Inner; 7] = [HALF_HOUR, COLON, MINUTE, COLON, SECOND, SPACE, HALF_DAY];
 
 /// `%H:%M`
 const SHORT_CLOCK: [Inner; 3] = [HOUR, COLON, MINUTE];
@@ -95,7 +87,7 @@ const CLOCK: [Inner; 5] = [HOUR, COLON, MINUTE, COLON, SECOND];
 
 impl Mark {
     fn code(self) -> char
-        ensures value { result ≡ mark_code self }
+        ensures value { result ≡ Spec.mark_code self }
         ensures ascii { result < 128 }
     {
         match self {
@@ -110,7 +102,7 @@ impl Mark {
 impl Composite {
     /// Its pieces.
     fn inner(self) -> &'static [Inner]
-        ensures value { result.now ≡ inner_of self }
+        ensures value { result.now ≡ Spec.inner_of self }
         ensures few { length result.now ≤ 13 }
     {
         match self {
@@ -127,7 +119,7 @@ impl Composite {
 impl Number {
     /// The width to which it is filled.
     fn width(self, flags: Flags) -> u8
-        ensures value { result ≡ number_width self flags }
+        ensures value { result ≡ Spec.number_width self flags }
         ensures most { result ≤ max 9 flags.width }
     {
         match flags.pad {
@@ -138,14 +130,30 @@ impl Number {
 
     /// Whether it is filled with zeros.
     fn fills_zeros(self, flags: Flags) -> bool
-        ensures { result ≡ number_zeros self flags }
+        ensures { result ≡ Spec.number_zeros self flags }
     {
         match flags.pad {
             Pad::Bare | Pad::Spaces => false,
             Pad::Zeros => true,
-            Pad::Unsaid => !self.is_spaced(),
+            Pad::Unsaid => !matches!(
+                self,
+                Number::SpacedDay | Number::SpacedHour | Number::SpacedHourOfHalf
+            ),
         }
     }
+}
+
+/// Appends a text, with zeros or spaces before it up to a width.
+fn push_filled<const CAP: usize>(part: &mut ArrayString<CAP>, zeros: bool, width: u8, text: &str)
+    requires { array_string_len part.old + max width (length text.now) ≤ CAP }
+    ensures bytes { part.new.bytes ≡ part.old.bytes ++ Spec.filled zeros width text.now }
+    ensures len { array_string_len part.new ≡ array_string_len part.old + max width (length text.now) }
+{
+    let fill = if zeros { '0' } else { ' ' };
+    'fills: for _done in 0..usize::from(width).saturating_sub(text.len()) {
+        part.push(fill);
+    }
+    part.push_str(text);
 }
 
 /// Appends a number in decimal, filled.
@@ -156,7 +164,7 @@ pub(crate) fn push_number<const CAP: usize>(
     t: Clock,
 )
     requires { array_string_len part.old + max 9 flags.width ≤ CAP }
-    ensures bytes { part.new.bytes ≡ part.old.bytes ++ number_text number flags t }
+    ensures bytes { part.new.bytes ≡ part.old.bytes ++ Spec.number_text number flags t }
     ensures len { array_string_len part.new ≤ array_string_len part.old + max 9 flags.width }
 {
     let mut digits = itoa::Buffer::new();
@@ -168,7 +176,21 @@ pub(crate) fn push_number<const CAP: usize>(
     );
 }
 
+/// A name in a letter case.
+fn cased(case: Case, name: &str) -> CasedName
+    requires len { length name.now ≤ 9 }
+    requires ascii { list_all is_ascii name.now ≡ true }
+    ensures { result.bytes ≡ Spec.cased case name.now }
+{
+    let mut text = CasedName::new();
+    'letters: for letter in name.as_bytes() {
+        text.push(char::from(case.of_letter(*letter)));
+    }
+    text
+}
+
 /// Appends a name in its letter case, filled.
+#[tactic(auto, using(crate::proofs::Formats::Names::name_ascii))]
 pub(crate) fn push_name<const CAP: usize>(
     part: &mut ArrayString<CAP>,
     name: Name,
@@ -176,16 +198,16 @@ pub(crate) fn push_name<const CAP: usize>(
     t: Clock,
 )
     requires { array_string_len part.old + max 9 flags.width ≤ CAP }
-    ensures bytes { part.new.bytes ≡ part.old.bytes ++ name_said name flags t }
+    ensures bytes { part.new.bytes ≡ part.old.bytes ++ Spec.name_said name flags t }
     ensures len { array_string_len part.new ≤ array_string_len part.old + max 9 flags.width }
 {
-    let name = cased_name(name, flags, t);
+    let name = cased(name.case_of(flags), name.text(t));
     push_filled(part, flags.fills_zeros(), flags.width, name.as_str());
 }
 
 fn push_inner(part: &mut Part, inner: Inner, flags: Flags, t: Clock)
     requires { array_string_len part.old + max 9 flags.width ≤ 255 }
-    ensures bytes { part.new.bytes ≡ part.old.bytes ++ inner_text flags t inner }
+    ensures bytes { part.new.bytes ≡ part.old.bytes ++ Spec.inner_text flags t inner }
     ensures len { array_string_len part.new ≤ array_string_len part.old + max 9 flags.width }
 {
     match inner {
@@ -197,7 +219,7 @@ fn push_inner(part: &mut Part, inner: Inner, flags: Flags, t: Clock)
 
 /// The pieces of a composite, one after the other.
 fn inner_part(composite: Composite, flags: Flags, t: Clock) -> Part
-    ensures bytes { result.bytes ≡ inner_texts (inner_flags flags) t (inner_of composite) }
+    ensures bytes { result.bytes ≡ Spec.inner_texts (Spec.inner_flags flags) t (Spec.inner_of composite) }
     ensures len { array_string_len result ≤ 117 }
 {
     let mut part = Part::new();
@@ -210,7 +232,7 @@ fn inner_part(composite: Composite, flags: Flags, t: Clock) -> Part
 /// Appends what a clock shows by a directive. There has to be room for the width, and for 117 bytes.
 pub(crate) fn push_directive(part: &mut Part, directive: Directive, flags: Flags, t: Clock)
     requires { array_string_len part.old ≡ 0 }
-    ensures { part.new.bytes ≡ part.old.bytes ++ directive_text directive flags t }
+    ensures { part.new.bytes ≡ part.old.bytes ++ Spec.directive_text directive flags t }
 {
     match directive {
         Directive::Name(name) => push_name(part, name, flags, t),

@@ -1,9 +1,7 @@
 //! What formats usually ask for, each appended at once: letters, and marks between them.
-ghost use Rattle.std.specs.Prelude.{◌≡◌, ◌+◌, ◌≤◌, ◌<◌, Some, true, length, decimal, IsTrue, IfSome, IfNone};
+ghost use Rattle.std.specs.Prelude.{◌≡◌, ◌+◌, ◌≤◌, ◌<◌, Some, true, decimal, IfSome};
 ghost use Rattle.arrayvec.specs.ArrayString.{array_string_len};
-ghost use Rattle.git_date.specs.Formats.Flags.{filled};
-ghost use Rattle.git_date.specs.Formats.Short.{letter_text, Passes, PushesLetter};
-ghost use Rattle.git_date.specs.Formats.Shown.{shown_of, Shown as Said};
+ghost use Rattle.git_date.specs as Spec;
 
 use crate::format::begun::push_alone;
 use crate::format::chunks::push_offset;
@@ -17,9 +15,9 @@ pub(crate) const USUAL_ROOM: usize = 10;
 
 /// The number that a usual letter shows in two digits.
 #[inline(always)]
-#[tactic(auto, unfolding(crate::specs::Tokens::Numbers::number))]
+#[tactic(auto, unfolding(crate::specs::number))]
 fn pair_of(letter: u8, shown: &Shown) -> Option<u8>
-    ensures value { IfSome result (λ n. letter_text (shown_of shown.now) letter ≡ Some (filled true 2 (decimal n))) }
+    ensures value { IfSome result (λ n. Spec.letter_text (Spec.shown_of shown.now) letter ≡ Some (Spec.filled true 2 (decimal n))) }
     ensures small { IfSome result (λ n. n < 100) }
 {
     match letter {
@@ -33,11 +31,15 @@ fn pair_of(letter: u8, shown: &Shown) -> Option<u8>
 }
 
 /// Appends what a letter shows, a usual one at once. `false` says nothing: nothing is appended.
-#[tactic(auto, using(crate::proofs::Formats::Short::appended, crate::proofs::Formats::Short::two_filled, crate::proofs::Formats::Short::year_shown, crate::proofs::Formats::Short::four_filled, crate::proofs::Formats::Usual::day_shown, crate::proofs::Formats::Usual::month_shown, crate::proofs::Formats::Usual::clock_is_shown, crate::proofs::Formats::Usual::date_shown), unfolding(crate::specs::Tokens::Numbers::number))]
+#[tactic(auto, using(crate::proofs::Formats::Short::appended, crate::proofs::Formats::Short::two_filled, crate::proofs::Formats::Short::year_shown, crate::proofs::Formats::Short::four_filled, crate::proofs::Formats::Usual::day_shown, crate::proofs::Formats::Usual::month_shown, crate::proofs::Formats::Usual::clock_is_shown, crate::proofs::Formats::Usual::date_shown), unfolding(crate::specs::number))]
 #[inline(always)]
-fn push_letter<const CAP: usize>(out: &mut ArrayString<CAP>, letter: u8, shown: &Shown) -> bool
+pub(crate) fn push_letter<const CAP: usize>(
+    out: &mut ArrayString<CAP>,
+    letter: u8,
+    shown: &Shown,
+) -> bool
     requires { array_string_len out.old + 10 ≤ CAP }
-    ensures { PushesLetter (letter_text (shown_of shown.now) letter) out.old.bytes out.new.bytes result }
+    ensures { Spec.PushesLetter (Spec.letter_text (Spec.shown_of shown.now) letter) out.old.bytes out.new.bytes result }
 {
     if let Some(pair) = pair_of(letter, shown) {
         push_two_digits(out, pair);
@@ -74,46 +76,6 @@ fn push_letter<const CAP: usize>(out: &mut ArrayString<CAP>, letter: u8, shown: 
     }
 }
 
-/// Appends what a format shows first, if that is a percent sign and a usual letter, and answers what is left. `None` means
-/// only that it begins otherwise: nothing is appended.
-#[inline(always)]
-fn push_lettered<'a, const CAP: usize>(
-    out: &mut ArrayString<CAP>,
-    text: &'a str,
-    shown: &Shown,
-) -> Option<&'a str>
-    requires { array_string_len out.old + 10 ≤ CAP }
-    ensures passes { IfSome result (λ rest. Passes (shown_of shown.now) text.now rest.now out.old.bytes out.new.bytes) }
-    ensures kept { IfNone result (out.new.bytes ≡ out.old.bytes) }
-{
-    let bytes = text.as_bytes();
-    if bytes.len() < 2 || bytes[0] != b'%' {
-        return None;
-    }
-    if !push_letter(out, bytes[1], shown) {
-        return None;
-    }
-    let (_, rest) = text.split_at(2);
-    Some(rest)
-}
-
-/// Appends what a format shows first, if that is one byte before a percent sign, and answers what is left.
-#[tactic(auto, using(crate::proofs::Formats::Usual::mark_goes))]
-#[inline(always)]
-fn push_mark<'a, const CAP: usize>(out: &mut ArrayString<CAP>, text: &'a str) -> Option<&'a str>
-    requires { array_string_len out.old + 1 ≤ CAP }
-    ensures passes { IfSome result (λ rest. (shown : Said) → Passes shown text.now rest.now out.old.bytes out.new.bytes) }
-    ensures kept { IfNone result (out.new.bytes ≡ out.old.bytes) }
-{
-    let bytes = text.as_bytes();
-    if bytes.len() < 2 || bytes[0] == b'%' || bytes[1] != b'%' {
-        return None;
-    }
-    let (mark, rest) = text.split_at(1);
-    out.push_str(mark);
-    Some(rest)
-}
-
 /// Does nothing, and says that a clock's numbers but the year have two digits at most.
 #[inline(always)]
 fn know_pairs(t: Clock)
@@ -122,22 +84,4 @@ fn know_pairs(t: Clock)
 {
     let _date = (t.month(), t.day());
     let _clock = (t.hour(), t.minute(), t.second());
-}
-
-/// Appends what a format shows first, if that is usual, and answers what is left. `None` means only that it begins otherwise:
-/// nothing is appended.
-#[inline(always)]
-pub(crate) fn push_usual<'a, const CAP: usize>(
-    out: &mut ArrayString<CAP>,
-    text: &'a str,
-    shown: &Shown,
-) -> Option<&'a str>
-    requires { array_string_len out.old + 10 ≤ CAP }
-    ensures passes { IfSome result (λ rest. Passes (shown_of shown.now) text.now rest.now out.old.bytes out.new.bytes) }
-    ensures kept { IfNone result (out.new.bytes ≡ out.old.bytes) }
-{
-    if let Some(rest) = push_mark(out, text) {
-        return Some(rest);
-    }
-    push_lettered(out, text, shown)
 }

@@ -1,8 +1,8 @@
 //! How long ago a time was.
 ghost use Rattle.std.specs.Prelude.{◌≡◌, ◌+◌, ◌^◌, ◌≤◌, ◌<◌, ◌≤ℤ◌, ◌++◌, length, pos};
 ghost use Rattle.arrayvec.specs.ArrayString.{array_string_len};
-ghost use Rattle.gix_date.specs.Fields.Zoned.{last_second};
-ghost use Rattle.git_date.specs.Show.Ages.{age_between, age_of, age_of_days, age_text, and_months, counted, in_years_and_months, relative_text, rounded};
+ghost use Rattle.git_date.specs as Spec;
+ghost use Rattle.gix_date.specs as GixDate;
 
 use crate::show::DateText;
 use arrayvec::ArrayString;
@@ -30,16 +30,16 @@ pub enum Age {
 fn rounded(n: u64, length: u64) -> u64
     requires fits { n + length < 2 ^ 64 }
     requires some { 0 < length }
-    ensures { result ≡ rounded n length }
+    ensures { result ≡ Spec.rounded n length }
 {
     (n + length / 2) / length
 }
 
 /// An age of so many days, in days or a larger unit. A year has 365 days here, so 24 months have 730.
-#[tactic(auto, unfolding(crate::specs::Show::Ages::age_of_days))]
+#[tactic(auto, unfolding(crate::specs::age_of_days))]
 fn age_of_days(days: u64) -> Age
     requires { days < 10_000_000 }
-    ensures { result ≡ age_of_days days }
+    ensures { result ≡ Spec.age_of_days days }
 {
     if days < 14 {
         Age::Days(days as u16)
@@ -48,24 +48,18 @@ fn age_of_days(days: u64) -> Age
     } else if days < 365 {
         Age::Months(rounded(days, 30) as u16)
     } else if days < 1825 {
-        in_years_and_months(rounded(24 * days, 730))
+        let months = rounded(24 * days, 730);
+        Age::Years((months / 12) as u16, (months % 12) as u16)
     } else {
         Age::Years(((days + 183) / 365) as u16, 0)
     }
 }
 
-fn in_years_and_months(months: u64) -> Age
-    requires { months < 65536 }
-    ensures { result ≡ in_years_and_months months }
-{
-    Age::Years((months / 12) as u16, (months % 12) as u16)
-}
-
 /// An age of so many seconds. After 89 seconds come 2 minutes: one minute, hour, day, week or month is never said alone.
-#[tactic(auto, unfolding(crate::specs::Show::Ages::age_of))]
+#[tactic(auto, unfolding(crate::specs::age_of))]
 fn age_of(seconds: u64) -> Age
     requires { seconds ≤ 253_402_207_200 }
-    ensures { result ≡ age_of seconds }
+    ensures { result ≡ Spec.age_of seconds }
 {
     if seconds < 90 {
         return Age::Seconds(seconds as u16);
@@ -84,7 +78,7 @@ fn age_of(seconds: u64) -> Age
 /// Appends a count and its unit, as `1 day` or `2 days`.
 fn push_counted(text: &mut DateText, count: u16, unit: &str)
     requires { array_string_len text.old + length unit.now + 7 ≤ 31 }
-    ensures bytes { text.new.bytes ≡ text.old.bytes ++ counted count unit.now }
+    ensures bytes { text.new.bytes ≡ text.old.bytes ++ Spec.counted count unit.now }
     ensures len { array_string_len text.new ≤ array_string_len text.old + length unit.now + 7 }
 {
     text.push_str(itoa::Buffer::new().format(count));
@@ -93,22 +87,10 @@ fn push_counted(text: &mut DateText, count: u16, unit: &str)
     text.push_str(if count == 1 { "" } else { "s" });
 }
 
-/// Appends the months beyond years, if there are any.
-fn push_months(text: &mut DateText, months: u16)
-    requires { array_string_len text.old + 14 ≤ 31 }
-    ensures bytes { text.new.bytes ≡ text.old.bytes ++ and_months months }
-    ensures len { array_string_len text.new ≤ array_string_len text.old + 14 }
-{
-    if months != 0 {
-        text.push_str(", ");
-        push_counted(text, months, "month");
-    }
-}
-
 /// Appends an age.
 fn push_age(text: &mut DateText, age: Age)
     requires { array_string_len text.old + 25 ≤ 31 }
-    ensures bytes { text.new.bytes ≡ text.old.bytes ++ age_text age }
+    ensures bytes { text.new.bytes ≡ text.old.bytes ++ Spec.age_text age }
     ensures len { array_string_len text.new ≤ array_string_len text.old + 25 }
 {
     match age {
@@ -120,17 +102,20 @@ fn push_age(text: &mut DateText, age: Age)
         Age::Months(count) => push_counted(text, count, "month"),
         Age::Years(years, months) => {
             push_counted(text, years, "year");
-            push_months(text, months);
+            if months != 0 {
+                text.push_str(", ");
+                push_counted(text, months, "month");
+            }
         }
     }
 }
 
 /// The age of a time at a moment. Both are in seconds since 1970.
-#[tactic(auto, unfolding(crate::specs::Show::Ages::age_between))]
+#[tactic(auto, unfolding(crate::specs::age_between))]
 pub(crate) fn age_between(now: i64, seconds: i64) -> Option<Age>
-    requires now { now ≤ℤ last_second }
+    requires now { now ≤ℤ GixDate.last_second }
     requires seconds { pos 0 ≤ℤ seconds }
-    ensures { result ≡ age_between now seconds }
+    ensures { result ≡ Spec.age_between now seconds }
 {
     if now < seconds {
         return None;
@@ -139,11 +124,11 @@ pub(crate) fn age_between(now: i64, seconds: i64) -> Option<Age>
 }
 
 /// How long ago a time was, at a moment. Both are in seconds since 1970.
-#[tactic(auto, unfolding(crate::specs::Show::Ages::relative_text))]
+#[tactic(auto, unfolding(crate::specs::relative_text))]
 pub(crate) fn relative_text(now: i64, seconds: i64) -> DateText
-    requires now { now ≤ℤ last_second }
+    requires now { now ≤ℤ GixDate.last_second }
     requires seconds { pos 0 ≤ℤ seconds }
-    ensures { result.bytes ≡ relative_text now seconds }
+    ensures { result.bytes ≡ Spec.relative_text now seconds }
 {
     let mut text = ArrayString::new();
     match age_between(now, seconds) {

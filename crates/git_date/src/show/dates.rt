@@ -1,10 +1,8 @@
 //! What is shown of a clock alone, and of seconds and an offset.
 ghost use Rattle.std.specs.Prelude.{◌≡◌, ◌<◌, ◌≤◌, [], true, unsigned_abs};
 ghost use Rattle.arrayvec.specs.ArrayString.{array_string_len};
-ghost use Rattle.gix_date.specs.Header.Text.{hundred_hours};
-ghost use Rattle.gix_date.specs.Text.Numbers.{decimal_text};
-ghost use Rattle.git_date.specs.Show.Dates.{clock_text, is_clock_kind, raw_text};
-ghost use Rattle.git_date.specs.Show.Texts.{git_default_text};
+ghost use Rattle.git_date.specs as Spec;
+ghost use Rattle.gix_date.specs as GixDate;
 
 use crate::mode::DateKind;
 use crate::show::DateText;
@@ -20,7 +18,7 @@ const UNKNOWN_OFFSET: i32 = -60;
 /// `Www Mmm D hh:mm:ss YYYY +hhmm`, without the offset if it is the zone's, or unknown.
 fn push_git_default(text: &mut DateText, local: bool, t: Clock)
     requires { text.old.bytes ≡ [] }
-    ensures { text.new.bytes ≡ git_default_text local t }
+    ensures { text.new.bytes ≡ Spec.git_default_text local t }
 {
     push_bare_default(text, t);
     if !local && t.offset() != UNKNOWN_OFFSET {
@@ -31,9 +29,9 @@ fn push_git_default(text: &mut DateText, local: bool, t: Clock)
 /// What is shown of a clock by a kind that shows nothing else.
 #[inline(always)]
 pub(crate) fn push_clock_text(text: &mut DateText, kind: DateKind, local: bool, t: Clock)
-    requires kind { is_clock_kind kind ≡ true }
+    requires kind { Spec.is_clock_kind kind ≡ true }
     requires empty { text.old.bytes ≡ [] }
-    ensures { text.new.bytes ≡ clock_text kind local t }
+    ensures { text.new.bytes ≡ Spec.clock_text kind local t }
 {
     match kind {
         DateKind::Default => push_git_default(text, local, t),
@@ -47,7 +45,7 @@ pub(crate) fn push_clock_text(text: &mut DateText, kind: DateKind, local: bool, 
 
 /// The seconds in decimal.
 pub(crate) fn unix_text(seconds: i64) -> DateText
-    ensures bytes { result.bytes ≡ decimal_text seconds }
+    ensures bytes { result.bytes ≡ GixDate.decimal_text seconds }
     ensures len { array_string_len result ≤ 20 }
 {
     let mut text = ArrayString::new();
@@ -57,8 +55,8 @@ pub(crate) fn unix_text(seconds: i64) -> DateText
 
 /// The seconds in decimal, and ` +hhmm`.
 pub(crate) fn raw_text(seconds: i64, offset: i32) -> DateText
-    requires { unsigned_abs offset < hundred_hours }
-    ensures { result.bytes ≡ raw_text seconds offset }
+    requires { unsigned_abs offset < GixDate.hundred_hours }
+    ensures { result.bytes ≡ Spec.raw_text seconds offset }
 {
     let mut text = unix_text(seconds);
     push_offset(&mut text, offset);

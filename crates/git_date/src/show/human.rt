@@ -1,8 +1,7 @@
 //! Human dates: as much as tells a date from now.
 ghost use Rattle.std.specs.Prelude.{◌≡◌, ◌+◌, ◌≤◌, ◌++◌};
 ghost use Rattle.arrayvec.specs.ArrayString.{array_string_len};
-ghost use Rattle.git_date.specs.Show.Human.{distance_of, is_few_days_before, is_same_day, few_days_text, human_text};
-ghost use Rattle.git_date.specs.Show.Texts.{year_text, day_and_clock_text, short_clock_text};
+ghost use Rattle.git_date.specs as Spec;
 
 use crate::show::{DateText, MAX_DATE_LEN};
 use arrayvec::ArrayString;
@@ -15,32 +14,19 @@ use gix_date::clock::{
 pub(crate) enum Distance {
     OtherYear,
     SameDay,
-    /// One to four days before, in the same month.
+    /// One to four days before, in the same month: by git-log's manual the day of the week says which of the last few days it is.
     FewDays,
     SameYear,
 }
 
-fn is_same_day(t: Clock, today: Clock) -> bool
-    ensures { result ≡ is_same_day t.date today.date }
-{
-    t.month() == today.month() && t.day() == today.day()
-}
-
-/// One to four days before: by git-log's manual the day of the week says which of the last few days it is.
-fn is_few_days_before(t: Clock, today: Clock) -> bool
-    ensures { result ≡ is_few_days_before t.date today.date }
-{
-    t.month() == today.month() && t.day() < today.day() && today.day() <= t.day() + 4
-}
-
 pub(crate) fn distance_of(t: Clock, today: Clock) -> Distance
-    ensures { result ≡ distance_of t.date today.date }
+    ensures { result ≡ Spec.distance_of t.date today.date }
 {
     if t.year() != today.year() {
         Distance::OtherYear
-    } else if is_same_day(t, today) {
+    } else if t.month() == today.month() && t.day() == today.day() {
         Distance::SameDay
-    } else if is_few_days_before(t, today) {
+    } else if t.month() == today.month() && t.day() < today.day() && today.day() <= t.day() + 4 {
         Distance::FewDays
     } else {
         Distance::SameYear
@@ -50,7 +36,7 @@ pub(crate) fn distance_of(t: Clock, today: Clock) -> Distance
 /// Appends `hh:mm`.
 fn push_short_clock(text: &mut DateText, t: Clock)
     requires { array_string_len text.old + 5 ≤ MAX_DATE_LEN }
-    ensures bytes { text.new.bytes ≡ text.old.bytes ++ short_clock_text t.clock }
+    ensures bytes { text.new.bytes ≡ text.old.bytes ++ Spec.short_clock_text t.clock }
     ensures len { array_string_len text.new ≡ array_string_len text.old + 5 }
 {
     push_two_digits(text, t.hour());
@@ -60,7 +46,7 @@ fn push_short_clock(text: &mut DateText, t: Clock)
 
 /// `Mmm D YYYY`: for older dates git-log's manual omits hour and minute.
 fn year_text(t: Clock) -> DateText
-    ensures { result.bytes ≡ year_text t }
+    ensures { result.bytes ≡ Spec.year_text t }
 {
     let mut text = ArrayString::new();
     push_month(&mut text, t);
@@ -72,7 +58,7 @@ fn year_text(t: Clock) -> DateText
 
 /// `Www hh:mm`, and the offset if today has another.
 pub(crate) fn few_days_text(local: bool, t: Clock, today: Clock) -> DateText
-    ensures bytes { result.bytes ≡ few_days_text local t today }
+    ensures bytes { result.bytes ≡ Spec.few_days_text local t today }
     ensures len { array_string_len result ≤ 15 }
 {
     let mut text = ArrayString::new();
@@ -86,7 +72,7 @@ pub(crate) fn few_days_text(local: bool, t: Clock, today: Clock) -> DateText
 
 /// `Www Mmm D hh:mm`
 fn day_and_clock_text(t: Clock) -> DateText
-    ensures { result.bytes ≡ day_and_clock_text t }
+    ensures { result.bytes ≡ Spec.day_and_clock_text t }
 {
     let mut text = ArrayString::new();
     push_weekday(&mut text, t);
@@ -99,7 +85,7 @@ fn day_and_clock_text(t: Clock) -> DateText
 
 /// What is shown of a clock by today's. Of the same day it is the age.
 pub(crate) fn human_text(local: bool, t: Clock, today: Clock, age: DateText) -> DateText
-    ensures { result.bytes ≡ human_text local t today age.bytes }
+    ensures { result.bytes ≡ Spec.human_text local t today age.bytes }
 {
     match distance_of(t, today) {
         Distance::OtherYear => year_text(t),

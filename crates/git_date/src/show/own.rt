@@ -1,28 +1,17 @@
 //! Dates as Git shows an identity line's own.
-ghost use Rattle.std.specs.Prelude.{◌≡◌, ◌+◌, ◌≤◌, ◌<◌, ◌∷◌, ◌++◌, [], decimal, length, pos, false, true, unsigned_abs, MatchResult, OnOk, Ok, Err};
+ghost use Rattle.std.specs.Prelude.{◌≡◌, ◌+◌, ◌≤◌, ◌<◌, ◌++◌, decimal, length, pos, false, true, unsigned_abs, MatchResult, OnOk, Ok, Err};
 ghost use Rattle.std.specs.Int.Signed.{lt_z};
 ghost use Rattle.arrayvec.specs.ArrayString.{array_string_len};
 ghost use Rattle.jiff.specs.Words.{plain_zone};
-ghost use Rattle.gix_date.specs.Text.Characters.{comma, space};
-ghost use Rattle.gix_date.specs.Text.Names.{day_name, month_name};
-ghost use Rattle.gix_date.specs.Fields.FieldTexts.{four_digits, clock_text};
-ghost use Rattle.gix_date.specs.Text.Numbers.{decimal_text};
-ghost use Rattle.gix_date.specs.Fields.Layout.{print_pieces};
-ghost use Rattle.gix_date.specs.Fields.Zoned.{whole_seconds};
-ghost use Rattle.gix_date.specs.Printing.LocalClocks.{local_seconds};
-ghost use Rattle.git_date.specs.Exact.Decimals.{decimal_of_offset};
-ghost use Rattle.git_date.specs.Show.Clocks.{moment_at, zone_clock};
-ghost use Rattle.git_date.specs.Show.Dates.{is_clock_kind};
-ghost use Rattle.git_date.specs.Show.Human.{few_days_text};
-ghost use Rattle.git_date.specs.declared.show.human.Distance.TheVariants.{FewDays};
-ghost use Rattle.git_date.specs.Show.OwnDates.{dated_clock, digits_from_two, few_days_offset, human_by, is_without_offset, known_offset_text, line_clock, own_clock_text, own_human_text, own_shown, own_shown_by, rfc2822_front, short_decimals, spaced_offset_text, written_offset_text};
+ghost use Rattle.git_date.specs as Spec;
+ghost use Rattle.gix_date.specs as GixDate;
 
+use crate::clocks::zone_clock;
 use crate::mode::{DateKind, DateMode};
 use crate::show::ages::relative_text;
-use crate::show::clocks::zone_clock;
 use crate::show::human::{Distance, distance_of, few_days_text, human_text};
 use crate::show::{DateText, show_date_at};
-use crate::zones::decimals::decimal_of_offset;
+use crate::zones::texts::decimal_of_offset;
 use arrayvec::ArrayString;
 use gix_date::Time;
 use gix_date::clock::{
@@ -77,6 +66,7 @@ pub enum OwnDateError {
 ///   seconds from 0 on: in local modes after 9999-12-30 22:00:00 UTC, and ages and human dates at a moment before 1970
 ///
 /// Takes no memory.
+#[tactic(auto, unfolding(crate::specs::own_date_shown, crate::specs::shown))]
 pub fn show_git_time(
     time: GitTime,
     mode: DateMode,
@@ -84,31 +74,15 @@ pub fn show_git_time(
     zone: TimeZone<'_>,
 ) -> Result<OwnDateText, OwnDateError>
     ensures { MatchResult result
-        (λ text. own_shown (moment_at now.nanosecond (plain_zone zone.entry)) mode time ≡ Ok text.bytes)
-        (λ e. own_shown (moment_at now.nanosecond (plain_zone zone.entry)) mode time ≡ Err e) }
-{
-    own_shown(time, mode, now, zone)
-}
-
-#[tactic(auto, unfolding(crate::specs::Show::OwnDates::own_shown, crate::specs::Show::Dates::shown))]
-fn own_shown(
-    time: GitTime,
-    mode: DateMode,
-    now: Timestamp,
-    zone: TimeZone<'_>,
-) -> Result<OwnDateText, OwnDateError>
-    ensures { MatchResult result
-        (λ text. own_shown (moment_at now.nanosecond (plain_zone zone.entry)) mode time ≡ Ok text.bytes)
-        (λ e. own_shown (moment_at now.nanosecond (plain_zone zone.entry)) mode time ≡ Err e) }
+        (λ text. Spec.own_date_shown (Spec.moment_at now.nanosecond (plain_zone zone.entry)) mode time ≡ Ok text.bytes)
+        (λ e. Spec.own_date_shown (Spec.moment_at now.nanosecond (plain_zone zone.entry)) mode time ≡ Err e) }
 {
     if time.seconds < 0 {
         return Err(OwnDateError::BeforeEpoch);
     }
     if mode.local || matches!(mode.kind, DateKind::Relative | DateKind::Unix) {
-        return match show_date_at(Time::new(time.seconds, 0), mode, now, zone) {
-            Ok(text) => Ok(widened(text)),
-            Err(_) => Err(OwnDateError::Range),
-        };
+        let shown = show_date_at(Time::new(time.seconds, 0), mode, now, zone);
+        return Ok(widened(shown.map_err(|_| OwnDateError::Range)?));
     }
     own_shown_by(time, mode.kind, now, zone)
 }
@@ -124,29 +98,35 @@ fn widened(text: DateText) -> OwnDateText
 }
 
 /// What the kinds show that show a line's own offset or clock.
+#[tactic(auto, using(crate::proofs::Printing::WrittenOffsets::by_clock))]
 fn own_shown_by(
     time: GitTime,
     kind: DateKind,
     now: Timestamp,
     zone: TimeZone<'_>,
 ) -> Result<OwnDateText, OwnDateError>
-    requires kind { is_without_offset kind ≡ false }
+    requires kind { Spec.is_without_offset kind ≡ false }
     requires seconds { lt_z time.seconds (pos 0) ≡ false }
     ensures { MatchResult result
-        (λ text. own_shown_by kind (moment_at now.nanosecond (plain_zone zone.entry)) time ≡ Ok text.bytes)
-        (λ e. own_shown_by kind (moment_at now.nanosecond (plain_zone zone.entry)) time ≡ Err e) }
+        (λ text. Spec.own_date_shown_by kind (Spec.moment_at now.nanosecond (plain_zone zone.entry)) time ≡ Ok text.bytes)
+        (λ e. Spec.own_date_shown_by kind (Spec.moment_at now.nanosecond (plain_zone zone.entry)) time ≡ Err e) }
 {
     match kind {
         DateKind::Raw => Ok(own_raw_text(time)),
-        DateKind::Human => match line_clock(time) {
-            Ok(clock) => human_shown(time, clock, now, zone),
-            Err(e) => Err(e),
-        },
-        kind => match line_clock(time) {
-            Ok(clock) => Ok(own_clock_text(kind, time.offset, clock)),
-            Err(e) => Err(e),
-        },
+        DateKind::Human => human_shown(time, line_clock(time)?, now, zone),
+        kind => own_clock_shown(time, kind),
     }
+}
+
+/// What a kind with a clock and nothing else shows, if the line has a clock.
+fn own_clock_shown(time: GitTime, kind: DateKind) -> Result<OwnDateText, OwnDateError>
+    requires kind { Spec.is_clock_kind kind ≡ true }
+    requires seconds { lt_z time.seconds (pos 0) ≡ false }
+    ensures { MatchResult result
+        (λ text. Spec.own_clock_shown kind time ≡ Ok text.bytes)
+        (λ e. Spec.own_clock_shown kind time ≡ Err e) }
+{
+    Ok(own_clock_text(kind, time.offset, line_clock(time)?))
 }
 
 /// A human date by the clock of a line and that of the moment.
@@ -156,28 +136,24 @@ fn human_shown(
     now: Timestamp,
     zone: TimeZone<'_>,
 ) -> Result<OwnDateText, OwnDateError>
-    requires short { unsigned_abs time.offset < short_decimals }
+    requires short { unsigned_abs time.offset < Spec.short_decimals }
     requires seconds { lt_z time.seconds (pos 0) ≡ false }
     ensures { MatchResult result
-        (λ text. human_by (moment_at now.nanosecond (plain_zone zone.entry)) time
-        (zone_clock (plain_zone zone.entry) (whole_seconds now.nanosecond)) clock ≡ Ok text.bytes)
-        (λ e. human_by (moment_at now.nanosecond (plain_zone zone.entry)) time
-        (zone_clock (plain_zone zone.entry) (whole_seconds now.nanosecond)) clock ≡ Err e) }
+        (λ text. Spec.human_by (Spec.moment_at now.nanosecond (plain_zone zone.entry)) time
+        (Spec.zone_clock (plain_zone zone.entry) (GixDate.whole_seconds now.nanosecond)) clock ≡ Ok text.bytes)
+        (λ e. Spec.human_by (Spec.moment_at now.nanosecond (plain_zone zone.entry)) time
+        (Spec.zone_clock (plain_zone zone.entry) (GixDate.whole_seconds now.nanosecond)) clock ≡ Err e) }
 {
     let second = now.as_second();
-    match zone_clock(second, zone) {
-        Some(today) => {
-            let age = relative_text(second, time.seconds);
-            Ok(own_human_text(time.offset, clock, today, age))
-        }
-        None => Err(OwnDateError::Range),
-    }
+    let today = zone_clock(second, zone).ok_or(OwnDateError::Range)?;
+    let age = relative_text(second, time.seconds);
+    Ok(own_human_text(time.offset, clock, today, age))
 }
 
 /// The seconds in decimal, and the offset as the line writes it.
 #[tactic(auto, using(crate::proofs::Printing::WrittenOffsets::any_offset))]
 fn own_raw_text(time: GitTime) -> OwnDateText
-    ensures { result.bytes ≡ decimal_text time.seconds ++ spaced_offset_text time.offset }
+    ensures { result.bytes ≡ GixDate.decimal_text time.seconds ++ Spec.spaced_offset_text time.offset }
 {
     let mut text = ArrayString::new();
     text.push_str(itoa::Buffer::new().format(time.seconds));
@@ -187,22 +163,19 @@ fn own_raw_text(time: GitTime) -> OwnDateText
 }
 
 /// What a line's own clock shows.
-#[tactic(auto, using(crate::proofs::Printing::WrittenOffsets::made_seconds, crate::proofs::Printing::WrittenOffsets::made_short), unfolding(crate::specs::Show::OwnDates::line_clock))]
+#[tactic(auto, using(crate::proofs::Printing::WrittenOffsets::made_seconds, crate::proofs::Printing::WrittenOffsets::made_short), unfolding(crate::specs::line_clock))]
 fn line_clock(time: GitTime) -> Result<Clock, OwnDateError>
     requires { lt_z time.seconds (pos 0) ≡ false }
-    ensures value { result ≡ line_clock time }
-    ensures short { OnOk result (unsigned_abs time.offset < short_decimals) }
+    ensures value { result ≡ Spec.line_clock time }
+    ensures short { OnOk result (unsigned_abs time.offset < Spec.short_decimals) }
 {
-    match time.to_time() {
-        Ok(shown) => dated_clock(shown),
-        Err(_) => Err(OwnDateError::OffsetTooWide),
-    }
+    dated_clock(time.to_time().map_err(|_| OwnDateError::OffsetTooWide)?)
 }
 
 /// What a time's own clock shows from 1970 on, and in years of four digits.
 fn dated_clock(time: Time) -> Result<Clock, OwnDateError>
     requires { lt_z time.seconds (pos 0) ≡ false }
-    ensures { result ≡ dated_clock (local_seconds time) }
+    ensures { result ≡ Spec.dated_clock (GixDate.local_seconds time) }
 {
     if LAST_BY_ANY_OFFSET < time.seconds {
         return Err(OwnDateError::Range);
@@ -219,9 +192,9 @@ fn dated_clock(time: Time) -> Result<Clock, OwnDateError>
 
 /// Appends the hours of an offset, in two digits or more.
 fn push_written_hours(text: &mut OwnDateText, hours: u32)
-    requires { array_string_len text.old + length (digits_from_two hours) ≤ MAX_OWN_LEN }
-    ensures bytes { text.new.bytes ≡ text.old.bytes ++ digits_from_two hours }
-    ensures len { array_string_len text.new ≡ array_string_len text.old + length (digits_from_two hours) }
+    requires { array_string_len text.old + length (Spec.digits_from_two hours) ≤ MAX_OWN_LEN }
+    ensures bytes { text.new.bytes ≡ text.old.bytes ++ Spec.digits_from_two hours }
+    ensures len { array_string_len text.new ≡ array_string_len text.old + length (Spec.digits_from_two hours) }
 {
     if hours < 100 {
         push_two_digits(text, hours as u8);
@@ -232,8 +205,8 @@ fn push_written_hours(text: &mut OwnDateText, hours: u32)
 
 /// Appends an offset as it is written, with a mark before its minutes.
 fn push_written_offset(text: &mut OwnDateText, mark: &str, offset: i32)
-    requires { array_string_len text.old + length (written_offset_text mark.now offset) ≤ MAX_OWN_LEN }
-    ensures { text.new.bytes ≡ text.old.bytes ++ written_offset_text mark.now offset }
+    requires { array_string_len text.old + length (Spec.written_offset_text mark.now offset) ≤ MAX_OWN_LEN }
+    ensures { text.new.bytes ≡ text.old.bytes ++ Spec.written_offset_text mark.now offset }
 {
     let size = offset.unsigned_abs();
     text.push(if offset < 0 { '-' } else { '+' });
@@ -245,18 +218,19 @@ fn push_written_offset(text: &mut OwnDateText, mark: &str, offset: i32)
 /// Appends a space and an offset as it is written.
 #[tactic(auto, using(gix_date::proofs::Text::Ints::held, crate::proofs::Printing::WrittenOffsets::short_offset))]
 fn push_spaced_offset(text: &mut OwnDateText, offset: i32)
-    requires short { unsigned_abs offset < short_decimals }
+    requires short { unsigned_abs offset < Spec.short_decimals }
     requires room { array_string_len text.old + 10 ≤ MAX_OWN_LEN }
-    ensures { text.new.bytes ≡ text.old.bytes ++ spaced_offset_text offset }
+    ensures { text.new.bytes ≡ text.old.bytes ++ Spec.spaced_offset_text offset }
 {
     text.push_str(" ");
     push_written_offset(text, "", offset);
 }
 
 /// Appends `Www, `.
+#[tactic(auto, unfolding(crate::specs::before_day))]
 fn push_day_name(text: &mut OwnDateText, t: Clock)
     requires { array_string_len text.old ≡ 0 }
-    ensures bytes { text.new.bytes ≡ text.old.bytes ++ (day_name t.weekday ++ comma ∷ space ∷ []) }
+    ensures bytes { text.new.bytes ≡ text.old.bytes ++ Spec.before_day t }
     ensures len { array_string_len text.new ≡ 5 }
 {
     text.push_str(day_name(t.weekday()));
@@ -264,9 +238,10 @@ fn push_day_name(text: &mut OwnDateText, t: Clock)
 }
 
 /// Appends ` Mmm YYYY hh:mm:ss`.
+#[tactic(auto, unfolding(crate::specs::then_month))]
 fn push_from_month(text: &mut OwnDateText, t: Clock)
     requires { array_string_len text.old ≤ 7 }
-    ensures bytes { text.new.bytes ≡ text.old.bytes ++ space ∷ month_name t.date.month ++ space ∷ four_digits t.date.year ++ space ∷ clock_text t.clock }
+    ensures bytes { text.new.bytes ≡ Spec.then_month text.old.bytes t }
     ensures len { array_string_len text.new ≤ 25 }
 {
     text.push(' ');
@@ -277,9 +252,10 @@ fn push_from_month(text: &mut OwnDateText, t: Clock)
 }
 
 /// Appends `Www, D Mmm YYYY hh:mm:ss`.
+#[tactic(auto, using(crate::proofs::Printing::WrittenOffsets::front_is))]
 fn push_rfc2822_front(text: &mut OwnDateText, t: Clock)
     requires { array_string_len text.old ≡ 0 }
-    ensures bytes { text.new.bytes ≡ text.old.bytes ++ print_pieces decimal rfc2822_front t }
+    ensures bytes { text.new.bytes ≡ text.old.bytes ++ GixDate.print_pieces decimal Spec.rfc2822_front t }
     ensures len { array_string_len text.new ≤ 25 }
 {
     push_day_name(text, t);
@@ -290,9 +266,9 @@ fn push_rfc2822_front(text: &mut OwnDateText, t: Clock)
 /// What a kind with a clock and nothing else shows of an offset and a clock.
 #[tactic(auto, using(crate::proofs::Printing::WrittenOffsets::short_offset))]
 fn own_clock_text(kind: DateKind, offset: i32, t: Clock) -> OwnDateText
-    requires kind { is_clock_kind kind ≡ true }
-    requires short { unsigned_abs offset < short_decimals }
-    ensures { result.bytes ≡ own_clock_text kind offset t }
+    requires kind { Spec.is_clock_kind kind ≡ true }
+    requires short { unsigned_abs offset < Spec.short_decimals }
+    ensures { result.bytes ≡ Spec.own_clock_text kind offset t }
 {
     let mut text = ArrayString::new();
     match kind {
@@ -315,43 +291,28 @@ fn own_clock_text(kind: DateKind, offset: i32, t: Clock) -> OwnDateText
         DateKind::Short => push_date(&mut text, t),
         DateKind::Default => {
             push_bare_default(&mut text, t);
-            push_known_offset(&mut text, offset);
+            if offset != UNKNOWN_DECIMAL {
+                push_spaced_offset(&mut text, offset);
+            }
         }
         DateKind::Relative | DateKind::Human | DateKind::Unix | DateKind::Raw => unreachable!(),
     }
     text
 }
 
-/// Appends an offset, unless it is unknown.
-fn push_known_offset(text: &mut OwnDateText, offset: i32)
-    requires short { unsigned_abs offset < short_decimals }
-    requires room { array_string_len text.old + 10 ≤ MAX_OWN_LEN }
-    ensures { text.new.bytes ≡ text.old.bytes ++ known_offset_text offset }
-{
-    if offset != UNKNOWN_DECIMAL {
-        push_spaced_offset(text, offset);
-    }
-}
-
-/// A clock of a few days ago, and the offset if it is written otherwise than that of today.
-fn own_few_days_text(offset: i32, t: Clock, today: Clock) -> OwnDateText
-    requires { unsigned_abs offset < short_decimals }
-    ensures { result.bytes ≡ few_days_text true t today ++ few_days_offset FewDays offset (decimal_of_offset today.offset) }
-{
-    let mut text = widened(few_days_text(true, t, today));
-    if offset != decimal_of_offset(today.offset()) {
-        push_spaced_offset(&mut text, offset);
-    }
-    text
-}
-
 /// A human date by the clock of a line and that of today.
 fn own_human_text(offset: i32, t: Clock, today: Clock, age: DateText) -> OwnDateText
-    requires { unsigned_abs offset < short_decimals }
-    ensures { result.bytes ≡ own_human_text offset t today age.bytes }
+    requires { unsigned_abs offset < Spec.short_decimals }
+    ensures { result.bytes ≡ Spec.own_human_text offset t today age.bytes }
 {
     match distance_of(t, today) {
-        Distance::FewDays => own_few_days_text(offset, t, today),
+        Distance::FewDays => {
+            let mut text = widened(few_days_text(true, t, today));
+            if offset != decimal_of_offset(today.offset()) {
+                push_spaced_offset(&mut text, offset);
+            }
+            text
+        }
         Distance::OtherYear | Distance::SameDay | Distance::SameYear => {
             widened(human_text(true, t, today, age))
         }

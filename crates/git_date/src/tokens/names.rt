@@ -1,8 +1,7 @@
 //! Names of days of the week and of zones, by their beginnings, in any letter case.
-ghost use Rattle.std.specs.Prelude.{◌≡◌, ◌≤◌, true, option_map, map, length};
-ghost use Rattle.std.specs.List.{find};
-ghost use Rattle.gix_date.specs.Text.LongNames.{is_short};
-ghost use Rattle.git_date.specs.Tokens.Names.{is_weekday, is_zone_name, stand_between, zone_rows, zone_named};
+ghost use Rattle.std.specs.Prelude.{◌≡◌, ◌≤◌, true, length};
+ghost use Rattle.git_date.specs as Spec;
+ghost use Rattle.gix_date.specs as GixDate;
 
 use gix_date::names::{begins, is_name, weekday_told};
 
@@ -60,22 +59,14 @@ const ZONES: [(&[u8], i16); 44] = [
 /// Whether a word is the front of a name and has three letters or more.
 #[inline(always)]
 fn is_short(word: &[u8], name: &[u8]) -> bool
-    ensures { result ≡ is_short word.now name.now }
+    ensures { result ≡ GixDate.is_short word.now name.now }
 {
     LEAST <= word.len() && begins(word, name)
 }
 
-/// Whether a word names a day of the week.
-#[tactic(auto, unfolding(crate::specs::Tokens::Names::is_weekday))]
-pub(crate) fn is_weekday(word: &[u8]) -> bool
-    ensures { result ≡ is_weekday word.now }
-{
-    weekday_told(word).is_some()
-}
-
 /// Whether a word is a zone's name, or at least three letters of it.
 fn is_zone_name(word: &[u8], name: &[u8]) -> bool
-    ensures { result ≡ is_zone_name word.now name.now }
+    ensures { result ≡ Spec.is_zone_name word.now name.now }
 {
     match (word, name) {
         ([a, ..], [b, ..]) => {
@@ -85,19 +76,24 @@ fn is_zone_name(word: &[u8], name: &[u8]) -> bool
     }
 }
 
-/// What stands in a table beside the first name that a word tells.
-fn zone_in(word: &[u8], rows: &[(&[u8], i16)]) -> Option<i16>
-    ensures { result ≡ option_map (λ row. row.1) (find (λ row. is_zone_name word.now row.0.now) rows.now) }
+/// What stands in a table beside the first name between two places that a word tells.
+#[tactic(auto, unfolding(crate::specs::zone_held))]
+fn zone_in(word: &[u8], rows: &[(&[u8], i16)], first: usize, end: usize) -> Option<i16>
+    requires { (first ≤ end) × (end ≤ length rows.now) }
+    ensures { result ≡ Spec.zone_held word.now rows.now first end }
 {
-    let row = rows.iter().find(|row| is_zone_name(word, row.0))?;
+    let row = rows[first..end]
+        .iter()
+        .find(|row| is_zone_name(word, row.0))?;
     Some(row.1)
 }
 
 /// The places between which all zones stand whose names begin with this small letter, so that a word is compared with few.
+#[tactic(auto, unfolding(crate::specs::stand_between))]
 fn places_of(letter: u8) -> (usize, usize)
     ensures ordered { result.0 ≤ result.1 }
     ensures within { result.1 ≤ 44 }
-    ensures all { stand_between letter result.0 result.1 ≡ true }
+    ensures all { Spec.stand_between letter result.0 result.1 ≡ true }
 {
     match letter {
         b'a' => (0, 2),
@@ -121,19 +117,20 @@ fn places_of(letter: u8) -> (usize, usize)
 }
 
 /// The offset in minutes of the zone that a word tells.
-#[tactic(auto, unfolding(crate::specs::Tokens::Names::zone_named))]
+#[tactic(auto, using(crate::proofs::Text::Tables::no_zone, crate::proofs::Text::Tables::zone_is))]
 pub(crate) fn zone_named(word: &[u8]) -> Option<i16>
-    ensures { result ≡ zone_named word.now }
+    ensures { result ≡ Spec.zone_named word.now }
 {
     let [letter, ..] = word else {
         return None;
     };
     let (first, end) = places_of(letter.to_ascii_lowercase());
-    zone_in(word, &zones()[first..end])
+    zone_in(word, zones(), first, end)
 }
 
+#[tactic(auto, unfolding(crate::specs::AreZones))]
 fn zones() -> &'static [(&'static [u8], i16)]
-    ensures rows { map (λ row. (row.0.now, row.1)) result.now ≡ zone_rows }
+    ensures rows { Spec.AreZones result.now }
     ensures len { length result.now ≡ 44 }
 {
     &ZONES

@@ -1,7 +1,6 @@
 //! Numbers, as Git keeps them.
-ghost use Rattle.std.specs.Prelude.{◌≡◌, ◌<◌};
-ghost use Rattle.git_date.specs.Tokens.Numbers.{number, is_too_large, narrow};
-ghost use Rattle.git_date.specs.Rules.Views.{saturated};
+ghost use Rattle.std.specs.Prelude.{◌≡◌};
+ghost use Rattle.git_date.specs as Spec;
 
 /// The greatest number that 32 bits hold with a sign, as Git's dates keep numbers.
 pub(crate) const MAX_SMALL: u64 = 2_147_483_647;
@@ -15,14 +14,14 @@ pub(crate) const NUMBERS_OF_32_BITS: u64 = 4_294_967_296;
 /// The number that digits write, or else the greatest, at which Git stops.
 #[tactic(auto, using(crate::proofs::Rules::Saturated::saturated_is))]
 pub(crate) fn number(digits: &[u8]) -> u64
-    ensures { result ≡ number digits.now }
+    ensures { result ≡ Spec.number digits.now }
 {
     saturated(digits)
 }
 
-#[tactic(auto, unfolding(crate::specs::Rules::Views::saturated))]
+#[tactic(auto, unfolding(crate::specs::saturated))]
 fn saturated(digits: &[u8]) -> u64
-    ensures { result ≡ saturated digits.now }
+    ensures { result ≡ Spec.saturated digits.now }
 {
     digits.iter().fold(0u64, |value, digit| {
         value
@@ -33,15 +32,15 @@ fn saturated(digits: &[u8]) -> u64
 
 /// Whether a number is more than Git's 32 bits hold, so that Git would cut it.
 pub(crate) fn is_too_large(n: u64) -> bool
-    ensures { result ≡ is_too_large n }
+    ensures { result ≡ Spec.is_too_large n }
 {
     MAX_SMALL < n
 }
 
 /// What Git's 32 bits hold of a number.
-#[tactic(auto, unfolding(crate::specs::Tokens::Numbers::narrow))]
+#[tactic(auto, unfolding(crate::specs::narrow))]
 pub(crate) fn narrow(n: u64) -> u64
-    ensures { result ≡ narrow n }
+    ensures { result ≡ Spec.narrow n }
 {
     n.min(MAX_GROUPED) % NUMBERS_OF_32_BITS
 }

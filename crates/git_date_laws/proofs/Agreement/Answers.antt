@@ -14,7 +14,7 @@ use Rattle.git_date.specs.Exact.Reading.{place_in, at_said, by_seconds, fields_s
 use Rattle.git_date.specs.Tokens.Strings.{nul_place}
 use Rattle.git_date.specs.Tokens.Tokens.{tokens}
 use Rattle.git_date.specs.Types.Names.{Fault, Now, Reading, Said}
-use Rattle.git_date.specs.declared.date.ReadDate.{ReadDate}
+use Rattle.git_date.specs.declared.reader.ReadDate.{ReadDate}
 use Rattle.git_date.specs.declared.error.DateError.{DateError}
 use Rattle.git_date.specs.declared.error.DateError.TheVariants.{Range}
 use Rattle.git_date.proofs.Rules.EnoughSteps.{fewer}

@@ -5,9 +5,9 @@ use Rattle.std.specs.Char.{to_ascii_lowercase}
 use Rattle.std.specs.Str.{str_to_ascii_lowercase}
 use Rattle.gix_date.specs.Fields.Layout.{LocalTime}
 use Rattle.gix_date.specs.declared.time.Time.{Time}
-use Rattle.git_date.specs.Approximate.Reading.{Read, steps, draft_of, answer, answer_of, guess_by, string_guess, guess}
+use Rattle.git_date.specs.Approximate.Reading.{Read, approximate_steps, draft_of, answer, answer_of, guess_by, string_guess, guess}
 use Rattle.git_date.specs.Approximate.Drafts.{first_draft, ignore, settle}
-use Rattle.git_date.specs.Approximate.Rules.{Ruled, word_by, read_word, are_digits_next, letters_rule, number_waits, group_or_number, digits_rule, understood}
+use Rattle.git_date.specs.Approximate.Rules.{Ruled, word_by, read_word, are_digits_next, approximate_letters_rule, number_waits, group_or_number, approximate_digits_rule, understood}
 use Rattle.git_date.specs.Approximate.Words.{meaning_of}
 use Rattle.git_date.specs.Approximate.Zones.{shown_in}
 use Rattle.git_date.specs.Exact.Zones.{States}
@@ -51,8 +51,8 @@ module _ (spell : List ℕ → List ℕ) (same : IsSpelling spell) where
   word-same d run left (Err e) = refl
 
   letters-same : (zone : States) (today : LocalTime) (d : Draft) (run : List ℕ) (more : List Token)
-      → letters_rule zone today d (spell run) (φ more) ≡ letters_rule zone today d run more
-  unfolding letters_rule
+      → approximate_letters_rule zone today d (spell run) (φ more) ≡ approximate_letters_rule zone today d run more
+  unfolding approximate_letters_rule
   letters-same zone today d run more =
       let left = bytes_left (Letters run ∷ more) in
       (λ i. cond (next-same more i) (Ok (ignore d (same-left (Letters run ∷ more) i)))
@@ -70,8 +70,8 @@ module _ (spell : List ℕ → List ℕ) (same : IsSpelling spell) where
   or-number-same d run more (Ok (Some found)) = refl
   or-number-same d run more (Err e) = ap (λ (e : Fault). Err e) (no-farther e)
 
-  digits-same : (now : Now) (d : Draft) (run : List ℕ) (more : List Token) → digits_rule now d run (φ more) ≡ kept (digits_rule now d run more)
-  unfolding digits_rule
+  digits-same : (now : Now) (d : Draft) (run : List ℕ) (more : List Token) → approximate_digits_rule now d run (φ more) ≡ kept (approximate_digits_rule now d run more)
+  unfolding approximate_digits_rule
   digits-same now d run more =
       let ready = understood (settle d) in
       by-true kept (is_too_large (number run)) _ _ _ _ (λ e. ap (λ (left : ℕ). Err (NumberTooLarge left)) (same-left (Digits run ∷ more)))
@@ -84,9 +84,9 @@ module _ (spell : List ℕ → List ℕ) (same : IsSpelling spell) where
 
   -- steps
   abbrev go_on : States → Today → ℕ → Read → Result Draft Fault
-  go_on zone today n step = and_then step (λ next. steps zone today n next.0 next.1)
+  go_on zone today n step = and_then step (λ next. approximate_steps zone today n next.0 next.1)
 
-  module _ (zone : States) (today : Today) (n : ℕ) (again : (d : Draft) (ts : List Token) → steps zone today n d (φ ts) ≡ steps zone today n d ts) where
+  module _ (zone : States) (today : Today) (n : ℕ) (again : (d : Draft) (ts : List Token) → approximate_steps zone today n d (φ ts) ≡ approximate_steps zone today n d ts) where
     kept-on : (x : Read) → go_on zone today n (kept x) ≡ go_on zone today n x
     kept-on (Ok found) = again found.0 found.1
     kept-on (Err e) = refl
@@ -96,7 +96,7 @@ module _ (spell : List ℕ → List ℕ) (same : IsSpelling spell) where
     letters-on more (Ok d) = again d more
     letters-on more (Err e) = refl
 
-  steps-same : (zone : States) (today : Today) (n : ℕ) (d : Draft) (ts : List Token) → steps zone today n d (φ ts) ≡ steps zone today n d ts
+  steps-same : (zone : States) (today : Today) (n : ℕ) (d : Draft) (ts : List Token) → approximate_steps zone today n d (φ ts) ≡ approximate_steps zone today n d ts
   unfolding walked
   steps-same zone today n d [] = refl
   steps-same zone today zero d (Letters run ∷ more) = refl
@@ -104,11 +104,11 @@ module _ (spell : List ℕ → List ℕ) (same : IsSpelling spell) where
   steps-same zone today zero d (Mark byte ∷ more) = refl
   steps-same zone today (suc n) d (Letters run ∷ more) =
       ap (λ (given : Result Draft Fault). go_on zone today n (and_then given (λ next. Ok (next, φ more)))) (letters-same zone today.shown.clock d run more)
-      ∙ letters-on zone today n (λ d ts. steps-same zone today n d ts) more (letters_rule zone today.shown.clock d run more)
+      ∙ letters-on zone today n (λ d ts. steps-same zone today n d ts) more (approximate_letters_rule zone today.shown.clock d run more)
   steps-same zone today (suc n) d (Digits run ∷ more) =
       ap (λ (step : Read). go_on zone today n step)
-      (ap (λ (step : Read). ended step) (digits-same today.now d run more) ∙ ended-kept (digits_rule today.now d run more))
-      ∙ kept-on zone today n (λ d ts. steps-same zone today n d ts) (ended (digits_rule today.now d run more))
+      (ap (λ (step : Read). ended step) (digits-same today.now d run more) ∙ ended-kept (approximate_digits_rule today.now d run more))
+      ∙ kept-on zone today n (λ d ts. steps-same zone today n d ts) (ended (approximate_digits_rule today.now d run more))
   steps-same zone today (suc n) d (Mark byte ∷ more) = steps-same zone today n d more
 
 -- what a text of the same length comes to
@@ -136,7 +136,7 @@ lower-length text = length-map text to_ascii_lowercase
 draft-lower : (zone : States) (today : Today) (text : List ℕ) → draft_of zone today (lower text) ≡ draft_of zone today text
 unfolding draft_of
 draft-lower zone today text =
-    ap₂ (λ (n : ℕ) (ts : List Token). steps zone today n (first_draft today.shown) ts) (lower-length text) (tokens-lower text)
+    ap₂ (λ (n : ℕ) (ts : List Token). approximate_steps zone today n (first_draft today.shown) ts) (lower-length text) (tokens-lower text)
     ∙ steps-same str_to_ascii_lowercase in_lower_case zone today (length text) (first_draft today.shown) (tokens text)
 
 guess-by-lower : (zone : States) (now : Now) (text : List ℕ) (shown : Option ZoneClock) → guess_by zone now (lower text) shown ≡ guess_by zone now text shown

@@ -11,7 +11,7 @@ use Rattle.git_date.specs.Exact.Zones.{States}
 use Rattle.git_date.specs.Exact.Reading.{said_up_to, string_said, said_by}
 use Rattle.git_date.specs.Tokens.Strings.{string_len, before_nul, nul_place}
 use Rattle.git_date.specs.Types.Names.{Now, Said}
-use Rattle.git_date.specs.declared.approximate.answer.Approximate.{Approximate}
+use Rattle.git_date.specs.declared.approximate.Approximate.{Approximate}
 use Rattle.git_date.specs.declared.error.DateError.{DateError}
 use Rattle.git_date.proofs.Text.StringEnds.{within, first_len, same-len, longer-len, no_place, some_place_is, all_stand_before, all-said}
 

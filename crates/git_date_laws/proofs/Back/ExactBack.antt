@@ -6,13 +6,13 @@ use Rattle.std.proofs.lemmas.Bool.Decides.{nat_tests}
 use Rattle.gix_date.proofs.Fields.Instants.{z_holds}
 use Rattle.gix_date.specs.declared.time.Time.{Time}
 use Rattle.git_date.proofs.Text.Walked.{nothing-left}
-use Rattle.git_date.specs.Approximate.Reading.{rule, steps, draft_of, answer, answer_of, answer_up_to, guess_by, string_guess, guess, step}
+use Rattle.git_date.specs.Approximate.Reading.{approximate_rule, approximate_steps, draft_of, answer, answer_of, answer_up_to, guess_by, string_guess, guess, approximate_step}
 use Rattle.git_date.specs.Approximate.Drafts.{first_draft, clock_fields, all_fields, with_shown, settle, last_of}
-use Rattle.git_date.specs.Approximate.Rules.{letters_rule, digits_rule, meaning_rule, is_padded}
+use Rattle.git_date.specs.Approximate.Rules.{approximate_letters_rule, approximate_digits_rule, meaning_rule, is_padded}
 use Rattle.git_date.specs.Approximate.Words.{moment_named, count_named, unit_named, meaning_of}
 use Rattle.gix_date.specs.Text.LongNames.{weekday_told, month_told}
 use Rattle.git_date.specs.Approximate.Clocks.{filled_seconds}
-use Rattle.git_date.specs.Approximate.Zones.{clock_at, shown_in, filled, filled_time, moved_to, before, fill}
+use Rattle.git_date.specs.Approximate.Zones.{clock_at, shown_in, filled_instant, filled_time, moved_to, before, fill}
 use Rattle.git_date.specs.Exact.Zones.{States}
 use Rattle.git_date.specs.Rules.Groups.{group_of, marked_number}
 use Rattle.git_date.specs.Tokens.Numbers.{number, is_too_large, max_small}
@@ -20,7 +20,7 @@ use Rattle.git_date.specs.Exact.Reading.{said_up_to, string_said, said_by}
 use Rattle.git_date.specs.Tokens.Strings.{before_nul, nul_place}
 use Rattle.git_date.specs.Tokens.Tokens.{Token, Letters, Digits, Mark, tokens, texts, bytes_left, walked}
 use Rattle.git_date.specs.Rules.Words.{without_ending}
-use Rattle.git_date.specs.declared.approximate.answer.Approximate.{Approximate}
+use Rattle.git_date.specs.declared.approximate.Approximate.{Approximate}
 use Rattle.git_date.specs.Types.Names.{Today, LastShown, Found, ZoneClock, ZoneState}
 use Rattle.git_date.specs.Types.Names.{Draft}
 use Rattle.git_date.specs.Types.MeaningCases as meaning
@@ -40,7 +40,7 @@ use Rattle.git_date.specs.Types.FaultCases.{BackTooFar, Range as OutOfRange}
 
 -- one step after the other
 pub go-on : (zone : States) (today : Today) (n : ℕ) (d next : Draft) (t : Token) (more : List Token) (r : Result Draft Fault)
-    → rule zone today d t more ≡ Ok (next, more) → steps zone today n next more ≡ r → steps zone today (suc n) d (t ∷ more) ≡ r
+    → approximate_rule zone today d t more ≡ Ok (next, more) → approximate_steps zone today n next more ≡ r → approximate_steps zone today (suc n) d (t ∷ more) ≡ r
 unfolding walked
 go-on zone today n d next t more r is e = rw is e
 
@@ -68,30 +68,30 @@ pub not-large : (n : ℕ) → n ≤ max_small → is_too_large n ≡ false
 not-large n h = grind (arith, nat_tests)
 
 pub digits-wait : (zone : States) (today : Today) (run : List ℕ) (gap : ℕ) (unit : List ℕ) (last : ℕ) → number run ≤ max_small → 1 ≤ number run → is_padded run ≡ false
-    → rule zone today (first_draft today.shown) (Digits run) (followed gap unit last)
+    → approximate_rule zone today (first_draft today.shown) (Digits run) (followed gap unit last)
     ≡ Ok (waiting_draft today.shown (number run) (bytes_left (Digits run ∷ followed gap unit last)), followed gap unit last)
-unfolding digits_rule group_said group_of marked_number without_ending settle
+unfolding approximate_digits_rule group_said group_of marked_number without_ending settle
 digits-wait zone today run gap unit last small some padded = grind (arith, not-large, not-zero)
 
 -- the unit moves the draft, where its filling does
 unit-moves : (zone : States) (c : ZoneClock) (guess : ℤ) (next : ZoneClock) (unit : List ℕ) (last n size left : ℕ) → meaning_of unit ≡ Some (meaning.Unit (Seconds size)) → n * size ≤ max_small
     → fill zone c.clock (record (waiting_draft c n left) { waiting = None }) (n * size) left ≡ Ok (moved_draft guess next)
-    → letters_rule zone c.clock (waiting_draft c n left) unit (Mark last ∷ Letters (codes "ago") ∷ []) ≡ Ok (moved_draft guess next)
-unfolding letters_rule meaning_rule
+    → approximate_letters_rule zone c.clock (waiting_draft c n left) unit (Mark last ∷ Letters (codes "ago") ∷ []) ≡ Ok (moved_draft guess next)
+unfolding approximate_letters_rule meaning_rule
 unit-moves zone c guess next unit last n size left means small moves = grind (arith, not-large)
 
-pub ago-nothing : (zone : States) (c : LocalTime) (d : Draft) → letters_rule zone c d (codes "ago") [] ≡ Ok d
-unfolding letters_rule meaning_of month_told moment_named count_named weekday_told unit_named
+pub ago-nothing : (zone : States) (c : LocalTime) (d : Draft) → approximate_letters_rule zone c d (codes "ago") [] ≡ Ok d
+unfolding approximate_letters_rule meaning_of month_told moment_named count_named weekday_told unit_named
 ago-nothing zone c d = refl
 
 -- a count that waits, the unit that moves it, and `ago`
 pub unit-walk : (zone : States) (today : Today) (n : ℕ) (d waits there : Draft) (digits : List ℕ) (gap : ℕ) (unit : List ℕ) (last : ℕ)
-    → rule zone today d (Digits digits) (followed gap unit last) ≡ Ok (waits, followed gap unit last)
-    → letters_rule zone today.shown.clock waits unit (Mark last ∷ Letters (codes "ago") ∷ []) ≡ Ok there
-    → steps zone today (suc (suc (suc (suc (suc n))))) d (Digits digits ∷ followed gap unit last) ≡ Ok there
+    → approximate_rule zone today d (Digits digits) (followed gap unit last) ≡ Ok (waits, followed gap unit last)
+    → approximate_letters_rule zone today.shown.clock waits unit (Mark last ∷ Letters (codes "ago") ∷ []) ≡ Ok there
+    → approximate_steps zone today (suc (suc (suc (suc (suc n))))) d (Digits digits ∷ followed gap unit last) ≡ Ok there
 unit-walk zone today n d waits there digits gap unit last wait moves =
     let ago : List Token = Letters (codes "ago") ∷ [] in
-    let fifth = go-on zone today n there there (Letters (codes "ago")) [] (Ok there) (rw (ago-nothing zone today.shown.clock there) refl) (nothing-left (step zone today) n there) in
+    let fifth = go-on zone today n there there (Letters (codes "ago")) [] (Ok there) (rw (ago-nothing zone today.shown.clock there) refl) (nothing-left (approximate_step zone today) n there) in
     let fourth = go-on zone today (suc n) there there (Mark last) ago (Ok there) refl fifth in
     let third = go-on zone today (suc (suc n)) waits there (Letters unit) (Mark last ∷ ago) (Ok there) (rw moves refl) fourth in
     let second = go-on zone today (suc (suc (suc n))) waits waits (Mark gap) (Letters unit ∷ Mark last ∷ ago) (Ok there) refl third in
@@ -109,7 +109,7 @@ filled-clock here x h = filled-today x h
 pub record Reaches (zone : States) (now : ℤ) (back : ℕ) (here then : ZoneState) : Type 0 where
   pub now_shown : shown_in zone now ≡ Some (clock_there here now)
   pub told_shown : shown_in zone (now -ℤ pos back) ≡ Some (clock_there then (now -ℤ pos back))
-  pub filled_now : filled zone (clock_there here now).clock (last_of (pos 0) (clock_there here now)) (clock_fields (clock_there here now).clock)
+  pub filled_now : filled_instant zone (clock_there here now).clock (last_of (pos 0) (clock_there here now)) (clock_fields (clock_there here now).clock)
       ≡ Some (record { instant = now; guess = here.offset })
   pub filled_told : filled_time zone (clock_there here now).clock (last_of here.offset (clock_there then (now -ℤ pos back)))
       (all_fields (clock_there then (now -ℤ pos back)).clock) ≡ Some (record { seconds = now -ℤ pos back; offset = then.offset })
@@ -126,7 +126,7 @@ module _ (zone : States) (now : ℤ) (back : ℕ) (here then : ZoneState) (are :
       → fill zone now_clock.clock d back left ≡ Ok (with_shown d here.offset then_clock)
   unfolding fill moved_to
   moves d left fields last =
-      ap₂ (λ (f : Fields) (shown : LastShown). go (filled zone now_clock.clock shown f)) fields last
+      ap₂ (λ (f : Fields) (shown : LastShown). go (filled_instant zone now_clock.clock shown f)) fields last
       ∙ ap go are.filled_now
       ∙ ap (λ (s : Option ZoneClock). ok_or (option_map (with_shown d here.offset) s) (BackTooFar left)) are.told_shown
     where
@@ -163,12 +163,12 @@ module _ (zone : States) (now : ℤ) (from then : ZoneState) (this : Now) (digit
   abbrev waits : Draft
   waits = waiting_draft here.shown (number digits) (bytes_left (Digits digits ∷ ts))
 
-  moved-word : letters_rule zone here.shown.clock waits unit (Mark last ∷ Letters (codes "ago") ∷ []) ≡ Ok there
+  moved-word : approximate_letters_rule zone here.shown.clock waits unit (Mark last ∷ Letters (codes "ago") ∷ []) ≡ Ok there
   moved-word =
       unit-moves zone here.shown from.offset (clock_there then (now -ℤ pos (number digits * size))) unit last (number digits) size (bytes_left (Digits digits ∷ ts)) means fits
       (filled-moves zone now (number digits * size) from then are (number digits) (bytes_left (Digits digits ∷ ts)))
 
-  drafted : (k : ℕ) → steps zone here (suc (suc (suc (suc (suc k))))) (first_draft here.shown) (Digits digits ∷ ts) ≡ Ok there
+  drafted : (k : ℕ) → approximate_steps zone here (suc (suc (suc (suc (suc k))))) (first_draft here.shown) (Digits digits ∷ ts) ≡ Ok there
   drafted k =
       unit-walk zone here k (first_draft here.shown) waits there digits gap unit last (digits-wait zone here digits gap unit last small some padded) moved-word
 

@@ -6,7 +6,7 @@ use Rattle.jiff.specs.Types.{TimeZone}
 use Rattle.jiff.specs.declared.zoned.Zoned.{Zoned}
 use Rattle.git_date.specs.Exact.Outcome.{date_of, date_at, said_offset}
 use Rattle.git_date.specs.Types.Names.{Said}
-use Rattle.git_date.specs.declared.date.ReadDate.{ReadDate}
+use Rattle.git_date.specs.declared.reader.ReadDate.{ReadDate}
 use Rattle.git_date.specs.declared.error.DateError.{DateError}
 use Rattle.git_date.proofs.Exact.ZoneOffsets.{moved}
 use Rattle.git_date_laws.specs.Laws.{IgnoresZone, IsOfEveryZone}

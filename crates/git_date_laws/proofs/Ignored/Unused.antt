@@ -24,7 +24,7 @@ use Rattle.git_date.specs.Tokens.Strings.{before_nul, nul_place}
 use Rattle.git_date.specs.Tokens.Tokens.{Token, Letters, Digits, Mark, tokens, bytes_left, is_end, walked}
 use Rattle.git_date.specs.Types.Names.{Now, Fields, Fault, Group, Reading, Said}
 use Rattle.git_date.specs.Rules.Words.{is_filler, with_word, letters_rule, without_ending, with_zone, half_or_filler}
-use Rattle.git_date.specs.declared.date.ReadDate.{ReadDate}
+use Rattle.git_date.specs.declared.reader.ReadDate.{ReadDate}
 use Rattle.git_date.specs.declared.error.DateError.{DateError}
 use Rattle.git_date.proofs.Rules.EnoughSteps.{fewer, rule-short}
 use Rattle.git_date.proofs.Rules.Kept.{Leaves}

@@ -7,9 +7,9 @@ use Rattle.std.specs.Option.{option_or}
 use Rattle.jiff.specs.declared.zoned.Zoned.{Zoned}
 use Rattle.gix_date.specs.Relative.Steps.{zone_of}
 use Rattle.gix_date.specs.declared.time.Time.{Time}
-use Rattle.git_date.specs.Approximate.Reading.{Read, steps, draft_of, answer, answer_of, guess_by, string_guess}
+use Rattle.git_date.specs.Approximate.Reading.{Read, approximate_steps, draft_of, answer, answer_of, guess_by, string_guess}
 use Rattle.git_date.specs.Approximate.Drafts.{earlier, first_draft, settle, dropped}
-use Rattle.git_date.specs.Approximate.Rules.{Ruled, hour_rule, unit_rule, meaning_rule, word_by, read_word, understood, letters_rule, is_padded, number_waits, group_or_number, digits_rule}
+use Rattle.git_date.specs.Approximate.Rules.{Ruled, hour_rule, unit_rule, meaning_rule, word_by, read_word, understood, approximate_letters_rule, is_padded, number_waits, group_or_number, approximate_digits_rule}
 use Rattle.git_date.specs.Approximate.Words.{meaning_of}
 use Rattle.git_date.specs.Approximate.Zones.{shown_in, filled_time, moved_to, fill}
 use Rattle.git_date.specs.Exact.Zones.{States, states_of}
@@ -22,7 +22,7 @@ use Rattle.git_date.specs.Tokens.Strings.{before_nul, nul_place}
 use Rattle.git_date.specs.Tokens.Tokens.{Token, Letters, Digits, Mark, tokens, bytes_left, walked}
 use Rattle.git_date.specs.Types.Names.{Now, Today, Draft, Fault, Fields, Found, Meaning, Number, ZoneClock, Unit as TheUnit}
 use Rattle.git_date.specs.Rules.Words.{is_filler, without_ending}
-use Rattle.git_date.specs.declared.approximate.answer.Approximate.{Approximate}
+use Rattle.git_date.specs.declared.approximate.Approximate.{Approximate}
 use Rattle.git_date.proofs.Rules.EnoughSteps.{fewer, short-kept}
 use Rattle.git_date.proofs.Rules.Kept.{ending-left, Leaves, IsAt}
 use Rattle.git_date.proofs.Guesses.KeptDrafts.{IsDraftAt, ReadsOn, digits-at}
@@ -49,7 +49,7 @@ short-of : (n : ℕ) (step : Read) → ReadsOn (λ left. Unit {0}) (λ ts. lengt
 short-of n (Ok found) h = h.1
 short-of n (Err fault) h = h
 
-read-short : (now : Now) (d : Draft) (run : List ℕ) (more : List Token) → IsShort (length more) (digits_rule now d run more)
+read-short : (now : Now) (d : Draft) (run : List ℕ) (more : List Token) → IsShort (length more) (approximate_digits_rule now d run more)
 read-short now d run more = search (rules, short-of, digits-at, short-kept, any-draft)
 
 -- places
@@ -103,9 +103,9 @@ module _ (zone : States) (today : LocalTime) where
   read-leaves d next run left said (Ok None) is e = let idle = word-idle d left said is in rw (idle.0, idle.1) (grind (arith, nat_tests, one-place))
   read-leaves d next run left said (Err wrong) is e = absurd cc
 
-  letters-leave : (d next : Draft) (run : List ℕ) (more : List Token) → letters_rule zone today d run more ≡ Ok next
+  letters-leave : (d next : Draft) (run : List ℕ) (more : List Token) → approximate_letters_rule zone today d run more ≡ Ok next
       → next.ignored ≡ earliest d.ignored (unused_letters d run more)
-  unfolding letters_rule
+  unfolding approximate_letters_rule
   letters-leave d next run more e =
       grind (arith, nat_tests, one-place, read-leaves d next run (bytes_left (Letters run ∷ more)) (meaning_of run) _ refl)
 
@@ -125,22 +125,22 @@ group-leaves now r next run more rest (Ok (Some found)) is e = rw (group-takes n
 group-leaves now r next run more rest (Ok None) is e = grind (arith, group-takes, waits-leaves)
 group-leaves now r next run more rest (Err wrong) is e = absurd cc
 
-digits-leave : (now : Now) (d next : Draft) (run : List ℕ) (more rest : List Token) → digits_rule now d run more ≡ Ok (next, rest)
+digits-leave : (now : Now) (d next : Draft) (run : List ℕ) (more rest : List Token) → approximate_digits_rule now d run more ≡ Ok (next, rest)
     → next.ignored ≡ earliest d.ignored (unused_digits now d run more)
-unfolding digits_rule
+unfolding approximate_digits_rule
 digits-leave now d next run more rest e =
     grind (arith, nat_tests, both-places, settle-leaves d, group-leaves now (understood (settle d)) next run more rest _ refl)
 
 -- the walk
 module _ (zone : States) (today : Today) where
   abbrev go : ℕ → Read → Result Draft Fault
-  go n step = and_then step (λ next. steps zone today n next.0 next.1)
+  go n step = and_then step (λ next. approximate_steps zone today n next.0 next.1)
 
   abbrev Comes : Draft → List Token → Draft → Type 0
   Comes d ts last = (unused : List ℕ) × Drafted zone today d ts unused (settle last) × ((settle last).ignored ≡ earliest d.ignored unused)
 
   abbrev AreDrafted : ℕ → Type 0
-  AreDrafted n = (d last : Draft) (ts : List Token) → length ts ≤ n → steps zone today n d ts ≡ Ok last → Comes d ts last
+  AreDrafted n = (d last : Draft) (ts : List Token) → length ts ≤ n → approximate_steps zone today n d ts ≡ Ok last → Comes d ts last
 
   at-end : (d last : Draft) → ◌≡◌ {A = Result Draft Fault} (Ok d) (Ok last) → Comes d [] last
   at-end d last e = subst (Comes d []) (same-ok d last e) (unfit d.fields d.waiting, AtEnd d, settle-leaves d)
@@ -150,14 +150,14 @@ module _ (zone : States) (today : Today) where
   later-on d next last ts rest unused leaves step later =
       (unused ++ later.0, step later.0 later.1, later.2 ∙ ap (λ (i : Option ℕ). earliest i later.0) leaves ∙ sym (both-places d.ignored unused later.0))
 
-  letters-then : (n : ℕ) → AreDrafted n → (d last : Draft) (run : List ℕ) (more : List Token) (found : Result Draft Fault) → letters_rule zone today.shown.clock d run more ≡ found
+  letters-then : (n : ℕ) → AreDrafted n → (d last : Draft) (run : List ℕ) (more : List Token) (found : Result Draft Fault) → approximate_letters_rule zone today.shown.clock d run more ≡ found
       → length more ≤ n → go n (and_then found (λ next. Ok (next, more))) ≡ Ok last → Comes d (Letters run ∷ more) last
   letters-then n all d last run more (Ok next) is short e =
       later-on d next last (Letters run ∷ more) more (unused_letters d run more) (letters-leave zone today.shown.clock d next run more is)
       (λ later walk. AtLetters d next (settle last) run more later is walk) (all next last more short e)
   letters-then n all d last run more (Err wrong) is short e = absurd cc
 
-  digits-then : (n : ℕ) → AreDrafted n → (d last : Draft) (run : List ℕ) (more : List Token) (found : Read) → digits_rule today.now d run more ≡ found
+  digits-then : (n : ℕ) → AreDrafted n → (d last : Draft) (run : List ℕ) (more : List Token) (found : Read) → approximate_digits_rule today.now d run more ≡ found
       → IsShort (length more) found → length more ≤ n → go n (ended found) ≡ Ok last → Comes d (Digits run ∷ more) last
   digits-then n all d last run more (Ok (next, rest)) is less short e =
       let fewer = ending-left (λ ts. length ts ≤ n) (λ left. Unit {0}) (short-kept n) rest (omega arith) in
@@ -173,9 +173,9 @@ module _ (zone : States) (today : Today) where
   steps-drafted (suc n) d last (Mark byte ∷ more) short e =
       let later = steps-drafted n d last more (omega arith) e in (later.0, AtMark d (settle last) byte more later.0 later.1, later.2)
   steps-drafted (suc n) d last (Letters run ∷ more) short e =
-      letters-then n (λ d last ts short e. steps-drafted n d last ts short e) d last run more (letters_rule zone today.shown.clock d run more) refl (omega arith) e
+      letters-then n (λ d last ts short e. steps-drafted n d last ts short e) d last run more (approximate_letters_rule zone today.shown.clock d run more) refl (omega arith) e
   steps-drafted (suc n) d last (Digits run ∷ more) short e =
-      digits-then n (λ d last ts short e. steps-drafted n d last ts short e) d last run more (digits_rule today.now d run more) refl
+      digits-then n (λ d last ts short e. steps-drafted n d last ts short e) d last run more (approximate_digits_rule today.now d run more) refl
       (read-short today.now d run more) (omega arith) e
 
   text-drafted : (text : List ℕ) (last : Draft) → draft_of zone today text ≡ Ok last → Comes (first_draft today.shown) (tokens text) last

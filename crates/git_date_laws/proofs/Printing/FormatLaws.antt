@@ -12,7 +12,7 @@ use Rattle.gix_date.specs.declared.time.Time.{Time}
 use Rattle.git_date.specs.Show.Clocks.{own_clock, has_own_clock}
 use Rattle.git_date.specs.Show.Dates.{raw_text}
 use Rattle.git_date.specs.Tokens.Numbers.{number}
-use Rattle.git_date.specs.Formats.Format.{shown_by_format, shown_pieces, asks_seconds, texts}
+use Rattle.git_date.specs.Formats.Format.{shown_by_format, shown_pieces, asks_seconds, pieces_text}
 use Rattle.git_date.specs.Formats.Pieces.{Piece, Text, is_percent, text_len, next_piece, pieces, pieces_in, pieces_or_none, made_at}
 use Rattle.git_date.specs.Formats.Shown.{Shown, shown_at, own_shown}
 use Rattle.git_date.proofs.Formats.Pieces.{next_text}
@@ -52,7 +52,7 @@ and-false true = refl
 and-false false = refl
 
 -- pieces that ask for no seconds are shown
-by-found : (ps : List Piece) (text : List ℕ) (found : Option Shown) → asks_seconds ps ≡ false → ((shown : Shown) → texts shown ps ≡ text)
+by-found : (ps : List Piece) (text : List ℕ) (found : Option Shown) → asks_seconds ps ≡ false → ((shown : Shown) → pieces_text shown ps ≡ text)
     → (found >>= shown_pieces ps) ≡ option_map (λ shown. text) found
 by-found ps text None h is = refl
 by-found ps text (Some shown) h is = grind (arith, and-false)
@@ -89,4 +89,5 @@ unfolding shown_by_format own_shown pieces pieces_in next_piece made_at number
 raw-shown zone t k = grind (arith, append-nil, own-offset)
 
 pub shows_stored : (zone : TimeZone) (t : Time) → ShowsStored zone t
+unfolding ShowsStored
 shows_stored zone t k = (seconds-shown zone t k, raw-shown zone t k)

@@ -3,9 +3,9 @@ use Rattle.std.proofs.Common.{◌≡◌, ◌∙◌, ◌+◌, ◌<◌, ◌≤◌,
 use Rattle.std.proofs.lemmas.List.{length-drop}
 use Rattle.std.specs.Prelude.{◌||◌, if◌then◌else◌}
 use Rattle.std.specs.Result.{result_err}
-use Rattle.git_date.specs.declared.format.fault.FormatFault.{FormatFault}
-use Rattle.git_date.specs.declared.format.fault.FormatFault.TheVariants.{FlagRefused, UnknownDirective, WidthTooLarge}
-use Rattle.git_date.specs.Formats.Format.{asks_seconds, is_seconds, piece_text, texts}
+use Rattle.git_date.specs.declared.format.error.FormatFault.{FormatFault}
+use Rattle.git_date.specs.declared.format.error.FormatFault.TheVariants.{FlagRefused, UnknownDirective, WidthTooLarge}
+use Rattle.git_date.specs.Formats.Format.{asks_seconds, is_seconds, piece_text, pieces_text}
 use Rattle.git_date.specs.Formats.Pieces.{Made, Piece, Text, Begun, begun, is_percent, text_len, letter_place, made_at, made_by, made_if, next_piece, pieces, pieces_in, piece_before, then_pieces}
 use Rattle.git_date.specs.Formats.Shown.{Shown}
 
@@ -20,7 +20,7 @@ abbrev pub Said : Type 0
 Said = Result (Bool × List ℕ) FormatFault
 
 abbrev pub sense : Shown → List Piece → Bool × List ℕ
-sense shown ps = (asks_seconds ps, texts shown ps)
+sense shown ps = (asks_seconds ps, pieces_text shown ps)
 
 abbrev pub said : Shown → Pieces → Said
 said shown (Ok ps) = Ok (sense shown ps)

@@ -1,5 +1,6 @@
 -- Formats that are joined: what the first and the second say is what both say.
-use Rattle.std.proofs.Common.{rules}
+use Rattle.std.proofs.Common.{rules, pos}
+use Rattle.gix_date.specs.Printing.LocalClocks.{clock_of}
 use Rattle.std.proofs.Common.{◌≡◌, ◌∙◌, ◌+◌, ◌-◌, ◌<◌, ◌≤◌, ℕ, zero, suc, Bool, true, false, cond, List, [], ◌∷◌, ◌++◌, length, length-append, take, drop, refl, ap, sym, subst, arith, Option, Some, None, Result, Ok, Err}
 use Rattle.std.proofs.lemmas.Bool.{false≢true}
 use Rattle.std.proofs.lemmas.Bool.Decides.{nat_tests}
@@ -11,11 +12,11 @@ use Rattle.std.specs.Result.{result_err, result_map_both, result_unwrap_or, is_o
 use Rattle.jiff.specs.Types.{TimeZone}
 use Rattle.gix_date.specs.Text.Front.{◌>>=◌}
 use Rattle.gix_date.specs.declared.time.Time.{Time}
-use Rattle.git_date.specs.declared.format.fault.FormatFault.{FormatFault}
-use Rattle.git_date.specs.declared.format.fault.FormatFault.TheVariants.{FlagRefused, UnknownDirective, WidthTooLarge}
+use Rattle.git_date.specs.declared.format.error.FormatFault.{FormatFault}
+use Rattle.git_date.specs.declared.format.error.FormatFault.TheVariants.{FlagRefused, UnknownDirective, WidthTooLarge}
 use Rattle.git_date.specs.Formats.Format.{is_seconds, piece_text, shown_by_format, shown_pieces}
 use Rattle.git_date.specs.Formats.Pieces.{Made, Begun, is_percent, marks_len, digits_len, after_marks, after_digits, letter_place, made_at, made_if, pieces, pieces_in, pieces_or_none, is_format, placed, checked, checked_by}
-use Rattle.git_date.specs.Formats.Shown.{Shown, shown_at}
+use Rattle.git_date.specs.Formats.Shown.{Shown, own_shown_by, shown_at}
 use Rattle.git_date.proofs.Formats.Pieces.{made-letter}
 use Rattle.git_date_laws.specs.Formats.{ChecksJoined, ShowsJoined, joined, moved}
 use Rattle.git_date_laws.proofs.Printing.FormatSteps.{Pieces, Said, said, sense, before, before-before, left_of, SameBut, made-left, fault-in, format_said, directive-said, fault-said, byte-said}
@@ -145,9 +146,14 @@ checked-after : (first second : List ℕ) (fault : Option FormatFault) → resul
 checked-after first second None is = refl
 checked-after first second (Some e) is = ap Err (fault-moves first second e (fault-in second e is))
 
-pub checks-joined : (shown : Shown) (first second : List ℕ) → ChecksJoined first second
-unfolding checked
+checks-joined : (shown : Shown) (first second : List ℕ) → ChecksJoined first second
+unfolding checked ChecksJoined
 checks-joined shown first second whole = search (rules, same-fault, checked-after)
+
+-- whatever is shown
+pub checks_joined : (first second : List ℕ) → ChecksJoined first second
+checks_joined first second =
+    let t : Time = record { seconds = pos 0; offset = pos 0 } in checks-joined (own_shown_by t (clock_of t)) first second
 
 -- what is shown of what a format says
 abbrev shown_said : Bool → Bool × List ℕ → Option (List ℕ)
@@ -177,6 +183,6 @@ joined-by (Some shown) first second whole also =
     ∙ both-shown (is_none shown.seconds) a.0.0 b.0.0 a.0.1 b.0.1
     ∙ sym (λ i. joined (first_shown i) (second_shown i))
 
-pub shows-joined : (zone : TimeZone) (local : Bool) (first second : List ℕ) (t : Time) → ShowsJoined zone local first second t
-unfolding shown_by_format
-shows-joined zone local first second t whole also = joined-by (shown_at zone local t) first second whole also
+pub shows_joined : (zone : TimeZone) (local : Bool) (first second : List ℕ) (t : Time) → ShowsJoined zone local first second t
+unfolding shown_by_format ShowsJoined
+shows_joined zone local first second t whole also = joined-by (shown_at zone local t) first second whole also

@@ -29,7 +29,7 @@ use Rattle.git_date.specs.Exact.Reading.{string_said, said_by, at_or_fields}
 use Rattle.git_date.specs.Show.Dates.{shown, shown_offset}
 use Rattle.git_date.specs.Show.Clocks.{Moment, is_written_offset}
 use Rattle.git_date.specs.Tokens.Tokens.{Token, Digits, Mark, tokens}
-use Rattle.git_date.specs.declared.date.ReadDate.{ReadDate}
+use Rattle.git_date.specs.declared.reader.ReadDate.{ReadDate}
 use Rattle.git_date.specs.Types.Names.{Now}
 use Rattle.git_date.specs.declared.error.DateError.{DateError}
 use Rattle.git_date.specs.declared.mode.DateKind.TheVariants.{Raw}

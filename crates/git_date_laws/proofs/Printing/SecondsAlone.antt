@@ -29,7 +29,7 @@ use Rattle.git_date.specs.Show.Clocks.{Moment}
 use Rattle.git_date.specs.Tokens.Tokens.{Digits, tokens}
 use Rattle.git_date.specs.Types.Names.{Now, Said}
 use Rattle.git_date.specs.Rules.Words.{without_ending}
-use Rattle.git_date.specs.declared.date.ReadDate.{ReadDate}
+use Rattle.git_date.specs.declared.reader.ReadDate.{ReadDate}
 use Rattle.git_date.specs.declared.mode.DateKind.TheVariants.{Raw, Unix}
 use Rattle.git_date_laws.proofs.Printing.PrintedBack.{zone-is}
 use Rattle.git_date_laws.proofs.Printing.RawBack.{date-is, decimal-number}

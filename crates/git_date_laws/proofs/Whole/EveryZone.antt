@@ -10,11 +10,11 @@ use Rattle.gix_date.specs.Fields.Zoned.{is_instant}
 use Rattle.gix_date.specs.Relative.Steps.{zone_of}
 use Rattle.gix_date.specs.declared.time.Time.{Time}
 use Rattle.git_date.specs.Approximate.Reading.{ApproximateOutcome, answer, answer_of, guess_by, string_guess, draft_of}
-use Rattle.git_date.specs.Approximate.Clocks.{shown_at, filled_seconds}
+use Rattle.git_date.specs.Approximate.Clocks.{clock_shown_at, filled_seconds}
 use Rattle.git_date.specs.Approximate.Drafts.{clock_fields, all_fields, first_draft, settle, with_shown, last_of}
-use Rattle.git_date.specs.Approximate.Rules.{understood, letters_rule, meaning_rule}
+use Rattle.git_date.specs.Approximate.Rules.{understood, approximate_letters_rule, meaning_rule}
 use Rattle.git_date.specs.Approximate.Words.{moment_named, count_named, unit_named, meaning_of}
-use Rattle.git_date.specs.Approximate.Zones.{clock_at, shown_in, found_by, found_at, filled, time_of, filled_time, fill}
+use Rattle.git_date.specs.Approximate.Zones.{clock_at, shown_in, found_by, found_at, filled_instant, time_of, filled_time, fill}
 use Rattle.git_date.specs.Exact.Computing.{computing}
 use Rattle.git_date.specs.Rules.Dates.{now_of}
 use Rattle.git_date.specs.Exact.Outcome.{date_of}
@@ -24,7 +24,7 @@ use Rattle.git_date.specs.Tokens.Tokens.{walked}
 use Rattle.git_date.specs.Exact.Zones.{States, state_there, states_of, found_offset}
 use Rattle.git_date.specs.Rules.Fields.{is_leap}
 use Rattle.git_date.specs.Types.Names.{Draft, Fault, Fields, Found, LastShown, Now, Today, ZoneClock, ZoneState}
-use Rattle.git_date.specs.declared.approximate.answer.Approximate.{Approximate}
+use Rattle.git_date.specs.declared.approximate.Approximate.{Approximate}
 use Rattle.git_date.specs.declared.error.DateError.{DateError}
 use Rattle.git_date.specs.declared.error.DateError.TheVariants.{Unreadable, Range}
 use Rattle.git_date.proofs.Rules.ClocksBack.{IsClockBack, filled-back, no-leap, shown-back}
@@ -88,14 +88,14 @@ module _ (tz : TimeZone) where
 
   filled-own : (today : LocalTime) (last : LastShown) (f : Fields) (s : ℤ) → is_instant s ≡ true → is_leap f ≡ false → filled_seconds today f ≡ Some (clock s)
       → last.daylight ≡ (there s).daylight → IsFoundAgain (states_of tz) last.guess (clock s) (there s).offset
-      → filled (states_of tz) today last f ≡ Some (record { instant = s; guess = (there s).offset })
-  unfolding filled
+      → filled_instant (states_of tz) today last f ≡ Some (record { instant = s; guess = (there s).offset })
+  unfolding filled_instant
   filled-own today last f s e leap is flag again =
       ap (option_and_then (found_at (states_of tz) last (is_leap f))) is
       ∙ ap (λ (b : Bool). found_at (states_of tz) last b (clock s)) leap
       ∙ found-at-own last s e flag again
 
-  time-own : (today : LocalTime) (last : LastShown) (f : Fields) (s : ℤ) → is_instant s ≡ true → filled (states_of tz) today last f ≡ Some (record { instant = s; guess = (there s).offset })
+  time-own : (today : LocalTime) (last : LastShown) (f : Fields) (s : ℤ) → is_instant s ≡ true → filled_instant (states_of tz) today last f ≡ Some (record { instant = s; guess = (there s).offset })
       → filled_time (states_of tz) today last f ≡ Some (record { seconds = s; offset = (there s).offset })
   unfolding filled_time
   time-own today last f s e is =
@@ -105,7 +105,7 @@ module _ (tz : TimeZone) where
   shown-own : (s : ℤ) → is_instant s ≡ true → IsClockBack (clock s) → shown_in (states_of tz) s ≡ Some (clock_there (there s) s)
   unfolding shown_in
   shown-own s e h =
-      ap (option_and_then (λ (here : ZoneState). option_map (clock_at here) (shown_at (s +ℤ here.offset)))) (says s e)
+      ap (option_and_then (λ (here : ZoneState). option_map (clock_at here) (clock_shown_at (s +ℤ here.offset)))) (says s e)
       ∙ ap (option_map (clock_at (there s))) (shown-back (clock s) h)
 
   -- what is found is an instant's clock
@@ -145,8 +145,9 @@ module _ (tz : TimeZone) where
         since_1970 = then_since;
       }
 
-pub back-in-every-zone : (moment : Zoned) (text : List ℕ) → IsBackInEveryZone moment text
-back-in-every-zone moment text count size result says reached answers =
+pub back_in_every_zone : (moment : Zoned) (text : List ℕ) → IsBackInEveryZone moment text
+unfolding IsBackInEveryZone
+back_in_every_zone moment text count size result says reached answers =
     let tz = zone_of moment in
     let this = now_of moment in
     let here = reached.now in
@@ -165,7 +166,7 @@ now-undated this = refl
 
 now-drafted : (zone : States) (today : Today) (moved : Draft) → fill zone today.shown.clock (first_draft today.shown) 0 3 ≡ Ok moved
     → draft_of zone today (codes "now") ≡ Ok (understood moved)
-unfolding computing walked draft_of letters_rule meaning_rule moment_named count_named unit_named meaning_of
+unfolding computing walked draft_of approximate_letters_rule meaning_rule moment_named count_named unit_named meaning_of
 now-drafted zone today moved e = rw e refl
 
 module _ (moment : Zoned) (found : IsFoundNow moment) where

@@ -28,7 +28,7 @@ use Rattle.git_date.specs.Show.Clocks.{own_clock, has_own_clock, zone_clock, has
 use Rattle.git_date.specs.Show.Dates.{shown}
 use Rattle.git_date.specs.Tokens.Numbers.{number as digits_number}
 use Rattle.git_date.specs.Formats.Flags.{filled}
-use Rattle.git_date.specs.Formats.Format.{asks_seconds, shown_by_format, shown_pieces, texts}
+use Rattle.git_date.specs.Formats.Format.{asks_seconds, shown_by_format, shown_pieces, pieces_text}
 use Rattle.git_date.specs.Formats.Pieces.{Piece, next_piece, pieces, pieces_in, pieces_or_none, made_at}
 use Rattle.git_date.specs.Formats.Shown.{Shown, own_shown, own_shown_by, zone_shown, zone_shown_by}
 use Rattle.git_date_laws.specs.Formats.{ShowsModes}
@@ -123,23 +123,23 @@ zone-shown-clock zone s clock e = grind (arith, zone-dated-clock)
 
 -- what pieces without seconds show of each clock, which the mode's text is
 alike : (past : Bool) (found : Option LocalTime) (show : LocalTime → Shown) (ps : List Piece) (text : LocalTime → List ℕ) → asks_seconds ps ≡ false
-    → ((clock : LocalTime) → found ≡ Some clock → (past ≡ false) × (texts (show clock) ps ≡ text clock))
+    → ((clock : LocalTime) → found ≡ Some clock → (past ≡ false) × (pieces_text (show clock) ps ≡ text clock))
     → (option_map show found >>= shown_pieces ps) ≡ cond past None (option_map text found)
 alike true None show ps text none is = refl
 alike false None show ps text none is = refl
 alike past (Some clock) show ps text none is = grind (arith, and-false)
 
 -- the texts of both patterns
-iso8601-texts : (seen : Shown) → HasDigits seen.clock.date seen.clock.clock → texts seen (pieces_or_none iso8601_pattern) ≡ iso8601_text seen.clock
+iso8601-texts : (seen : Shown) → HasDigits seen.clock.date seen.clock.clock → pieces_text seen (pieces_or_none iso8601_pattern) ≡ iso8601_text seen.clock
 unfolding pieces pieces_in next_piece made_at digits_number
 iso8601-texts seen has = grind (arith, four_filled, two_filled)
 
-short-texts : (seen : Shown) → HasDigits seen.clock.date seen.clock.clock → texts seen (pieces_or_none (codes "%F")) ≡ short_text seen.clock
+short-texts : (seen : Shown) → HasDigits seen.clock.date seen.clock.clock → pieces_text seen (pieces_or_none (codes "%F")) ≡ short_text seen.clock
 unfolding pieces pieces_in next_piece made_at digits_number
 short-texts seen has = grind (arith, four_filled, two_filled)
 
 module _ (pattern : List ℕ) (text : LocalTime → List ℕ) (none : asks_seconds (pieces_or_none pattern) ≡ false)
-    (is : (seen : Shown) → HasDigits seen.clock.date seen.clock.clock → texts seen (pieces_or_none pattern) ≡ text seen.clock)
+    (is : (seen : Shown) → HasDigits seen.clock.date seen.clock.clock → pieces_text seen (pieces_or_none pattern) ≡ text seen.clock)
     (zone : TimeZone) (t : Time) where
   by-clock : (local : Bool) → shown_by_format zone local pattern t ≡ cond (lt_z t.seconds (pos 0)) None (option_map text (cond local (zone_clock zone t.seconds) (own_clock t)))
   unfolding shown_by_format own_shown zone_shown
@@ -159,7 +159,7 @@ unfolding pieces pieces_in next_piece made_at digits_number
 short-none = refl
 
 pub shows_modes : (zone : TimeZone) (t : Time) → ShowsModes zone t
-unfolding shown
+unfolding shown ShowsModes
 shows_modes zone t seconds = (
   λ local. by-clock iso8601_pattern iso8601_text iso8601-none iso8601-texts zone t local,
   λ local. by-clock (codes "%F") short_text short-none short-texts zone t local,

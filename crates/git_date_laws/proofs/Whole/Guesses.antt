@@ -15,8 +15,8 @@ use Rattle.git_date.specs.Exact.Reading.{said_by}
 use Rattle.git_date.specs.Tokens.Strings.{string_len, nul_place}
 use Rattle.git_date.specs.Types.Names.{Said}
 use Rattle.git_date.proofs.Text.StringEnds.{within}
-use Rattle.git_date.specs.declared.approximate.answer.Approximate.{Approximate}
-use Rattle.git_date.specs.declared.date.ReadDate.{ReadDate}
+use Rattle.git_date.specs.declared.approximate.Approximate.{Approximate}
+use Rattle.git_date.specs.declared.reader.ReadDate.{ReadDate}
 use Rattle.git_date.specs.declared.error.DateError.{DateError}
 use Rattle.git_date.specs.declared.error.DateError.TheVariants.{Unreadable}
 use Rattle.git_date_laws.proofs.Alike.Texts.{same-case, equal-bytes}

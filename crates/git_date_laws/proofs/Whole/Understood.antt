@@ -7,9 +7,9 @@ use Rattle.jiff.specs.Words.{nanos_of_seconds}
 use Rattle.jiff.specs.declared.zoned.Zoned.{Zoned}
 use Rattle.gix_date.specs.Relative.Steps.{zone_of}
 use Rattle.gix_date.specs.declared.time.Time.{Time}
-use Rattle.git_date.specs.Approximate.Reading.{Read, steps, draft_of, answer, answer_of, answer_up_to, guess_by, string_guess, guess, is_unreadable, exact_or_guess}
+use Rattle.git_date.specs.Approximate.Reading.{Read, approximate_steps, draft_of, answer, answer_of, answer_up_to, guess_by, string_guess, guess, is_unreadable, exact_or_guess}
 use Rattle.git_date.specs.Approximate.Drafts.{clock_fields, first_draft, ignore, with_number, settle_number, settle, last_of, without_number}
-use Rattle.git_date.specs.Approximate.Rules.{Ruled, understood, read_word, word_by, are_digits_next, letters_rule, is_padded, number_waits, group_or_number, digits_rule}
+use Rattle.git_date.specs.Approximate.Rules.{Ruled, understood, read_word, word_by, are_digits_next, approximate_letters_rule, is_padded, number_waits, group_or_number, approximate_digits_rule}
 use Rattle.git_date.specs.Approximate.Words.{meaning_of}
 use Rattle.git_date.specs.Approximate.Zones.{filled_time}
 use Rattle.git_date.specs.Exact.Zones.{States, state_there, states_of}
@@ -23,8 +23,8 @@ use Rattle.git_date.specs.Tokens.Tokens.{Token, Letters, Digits, Mark, tokens, b
 use Rattle.git_date.specs.Rules.Words.{is_filler, without_ending}
 use Rattle.git_date.specs.Types.FaultCases.{NumberTooLarge}
 use Rattle.git_date.specs.Types.Names.{Draft, Fault, Fields, Now, Number, Today, LastShown, ZoneClock, ZoneState}
-use Rattle.git_date.specs.declared.approximate.answer.Approximate.{Approximate}
-use Rattle.git_date.specs.declared.date.ReadDate.{ReadDate}
+use Rattle.git_date.specs.declared.approximate.Approximate.{Approximate}
+use Rattle.git_date.specs.declared.reader.ReadDate.{ReadDate}
 use Rattle.git_date.specs.declared.error.DateError.{DateError}
 use Rattle.git_date_laws.proofs.Alike.Cuts.{same-ok}
 use Rattle.git_date_laws.proofs.Whole.EveryZone.{now-reached, now-timed}
@@ -52,8 +52,8 @@ module _ (zone : States) (today : Today) where
       by false e = subst Idle (same-ok (ignore d left) next e) h
   word-idle d next run left (Err x) h e = absurd cc
 
-  letters-idle : (d next : Draft) (run : List ℕ) (more : List Token) → Idle d → letters_rule zone today.shown.clock d run more ≡ Ok next → Idle next
-  unfolding letters_rule
+  letters-idle : (d next : Draft) (run : List ℕ) (more : List Token) → Idle d → approximate_letters_rule zone today.shown.clock d run more ≡ Ok next → Idle next
+  unfolding approximate_letters_rule
   letters-idle d next run more h e = by (are_digits_next more) e
     where
       left : ℕ
@@ -76,8 +76,8 @@ module _ (zone : States) (today : Today) where
   group-heard d run more found (Ok None) h e = sym (ap (λ (x : Draft × List Token). x.0.understood) (same-ok _ found e)) ∙ number-heard d run _ h
   group-heard d run more found (Err x) h e = absurd cc
 
-  digits-heard : (d : Draft) (run : List ℕ) (more : List Token) (found : Draft × List Token) → digits_rule today.now d run more ≡ Ok found → found.0.understood ≡ true
-  unfolding digits_rule
+  digits-heard : (d : Draft) (run : List ℕ) (more : List Token) (found : Draft × List Token) → approximate_digits_rule today.now d run more ≡ Ok found → found.0.understood ≡ true
+  unfolding approximate_digits_rule
   digits-heard d run more found e = by (is_too_large (number run)) e
     where
       left : ℕ
@@ -92,32 +92,32 @@ module _ (zone : States) (today : Today) where
       by false e = group-heard ready run more found (group_said today.now ready.fields run more) refl e
 
   abbrev go : ℕ → Read → Result Draft Fault
-  go n step = and_then step (λ next. steps zone today n next.0 next.1)
+  go n step = and_then step (λ next. approximate_steps zone today n next.0 next.1)
 
   abbrev StepsIdle : ℕ → Type 0
-  StepsIdle n = (d last : Draft) (ts : List Token) → Idle d → steps zone today n d ts ≡ Ok last → Idle last
+  StepsIdle n = (d last : Draft) (ts : List Token) → Idle d → approximate_steps zone today n d ts ≡ Ok last → Idle last
 
   letters-then : (n : ℕ) → StepsIdle n → (d last : Draft) (run : List ℕ) (more : List Token) (found : Result Draft Fault) → Idle d
-      → letters_rule zone today.shown.clock d run more ≡ found → go n (and_then found (λ next. Ok (next, more))) ≡ Ok last → Idle last
+      → approximate_letters_rule zone today.shown.clock d run more ≡ found → go n (and_then found (λ next. Ok (next, more))) ≡ Ok last → Idle last
   letters-then n all d last run more (Ok next) h is e = all next last more (letters-idle d next run more h is) e
   letters-then n all d last run more (Err x) h is e = absurd cc
 
   digits-then : (n : ℕ) → StepsIdle n → (d last : Draft) (run : List ℕ) (more : List Token) (found : Read)
-      → digits_rule today.now d run more ≡ found → go n (ended found) ≡ Ok last → Idle last
+      → approximate_digits_rule today.now d run more ≡ found → go n (ended found) ≡ Ok last → Idle last
   digits-then n all d last run more (Ok (next, rest)) is e =
       all next last (without_ending rest) (λ silent. absurd (not-both next.understood (digits-heard d run more (next, rest) is) silent)) e
   digits-then n all d last run more (Err x) is e = absurd cc
 
-  steps-idle : (n : ℕ) (d last : Draft) (ts : List Token) → Idle d → steps zone today n d ts ≡ Ok last → Idle last
+  steps-idle : (n : ℕ) (d last : Draft) (ts : List Token) → Idle d → approximate_steps zone today n d ts ≡ Ok last → Idle last
   unfolding walked
   steps-idle zero d last [] h e = subst Idle (same-ok d last e) h
   steps-idle (suc n) d last [] h e = subst Idle (same-ok d last e) h
   steps-idle zero d last (t ∷ more) h e = subst Idle (same-ok d last e) h
   steps-idle (suc n) d last (Mark byte ∷ more) h e = steps-idle n d last more h e
   steps-idle (suc n) d last (Letters run ∷ more) h e =
-      letters-then n (λ d last ts h e. steps-idle n d last ts h e) d last run more (letters_rule zone today.shown.clock d run more) h refl e
+      letters-then n (λ d last ts h e. steps-idle n d last ts h e) d last run more (approximate_letters_rule zone today.shown.clock d run more) h refl e
   steps-idle (suc n) d last (Digits run ∷ more) h e =
-      digits-then n (λ d last ts h e. steps-idle n d last ts h e) d last run more (digits_rule today.now d run more) refl e
+      digits-then n (λ d last ts h e. steps-idle n d last ts h e) d last run more (approximate_digits_rule today.now d run more) refl e
 
   draft-idle : (text : List ℕ) (d : Draft) → draft_of zone today text ≡ Ok d → Idle d
   unfolding draft_of

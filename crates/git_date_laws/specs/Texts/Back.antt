@@ -6,7 +6,7 @@ use Rattle.git_date.specs.Rules.Digits.{min_epoch}
 use Rattle.git_date.specs.Tokens.Numbers.{number}
 use Rattle.git_date.specs.Tokens.Strings.{before_nul}
 use Rattle.git_date.specs.Tokens.Tokens.{Letters, Digits, Mark, tokens}
-use Rattle.git_date.specs.declared.approximate.answer.Approximate.{Approximate}
+use Rattle.git_date.specs.declared.approximate.Approximate.{Approximate}
 use Rattle.git_date.specs.Types.MeaningCases as meaning
 use Rattle.git_date.specs.Types.UnitCases.{Seconds}
 

@@ -16,14 +16,14 @@ use Rattle.gix_date.specs.declared.parsing.raw.RawOffsets.TheVariants.{Quarter}
 use Rattle.gix_date.specs.declared.time.Time.{Time}
 use Rattle.git_date.specs.Approximate.Reading.{ApproximateOutcome}
 use Rattle.git_date.specs.Exact.Outcome.{DateOutcome, IsPlaceIn}
-use Rattle.git_date.specs.declared.approximate.answer.Approximate.{Approximate}
-use Rattle.git_date.specs.declared.date.ReadDate.{ReadDate}
+use Rattle.git_date.specs.declared.approximate.Approximate.{Approximate}
+use Rattle.git_date.specs.declared.reader.ReadDate.{ReadDate}
 use Rattle.git_date.specs.declared.error.DateError.{DateError}
 use Rattle.git_date_tool.specs.Answers.Refusals.{of_git, of_careful, of_gix}
-use Rattle.git_date_tool.specs.declared.answers.readers.Reader.{Reader}
-use Rattle.git_date_tool.specs.declared.answers.readers.Reader.TheVariants.{Exact, Approxidate, Careful, Gix, Header}
-use Rattle.git_date_tool.specs.declared.answers.readers.Strictness.{Strictness}
-use Rattle.git_date_tool.specs.declared.answers.readers.Strictness.TheVariants.{Lenient, Usual, Strict}
+use Rattle.git_date_tool.specs.declared.answers.Reader.{Reader}
+use Rattle.git_date_tool.specs.declared.answers.Reader.TheVariants.{Exact, Approxidate, Careful, Gix, Header}
+use Rattle.git_date_tool.specs.declared.answers.Strictness.{Strictness}
+use Rattle.git_date_tool.specs.declared.answers.Strictness.TheVariants.{Lenient, Usual, Strict}
 use Rattle.git_date_tool.specs.declared.answers.refusals.Refusal.{Refusal}
 use Rattle.git_date_tool.specs.declared.answers.refusals.Refusal.TheVariants.{NotText, NotUnderstood, Ignored, NoHeader, NotCanonical}
 

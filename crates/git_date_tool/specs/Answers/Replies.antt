@@ -2,7 +2,7 @@
 use Rattle.std.specs.Prelude.{◌≡◌, ℕ, Bool, true, false, not, List, [], ◌∷◌, ◌++◌, Option, Some, None, is_none, Result, Ok, Err}
 use Rattle.std.specs.Fmt.{decimal}
 use Rattle.gix_date.specs.Text.Characters.{space}
-use Rattle.git_date.specs.declared.approximate.answer.Approximate.{Approximate}
+use Rattle.git_date.specs.declared.approximate.Approximate.{Approximate}
 use Rattle.git_date_tool.specs.Answers.Readers.{IsRead}
 use Rattle.git_date_tool.specs.Answers.Refusals.{is_unclear, refusal_name, refusal_place}
 use Rattle.git_date_tool.specs.Answers.Shown.{IsShown, line_text}
@@ -11,7 +11,7 @@ use Rattle.git_date_tool.specs.declared.answers.Answer.{Answer}
 use Rattle.git_date_tool.specs.declared.answers.Answer.TheVariants.{Date, Refused}
 use Rattle.git_date_tool.specs.declared.answers.Query.{Query}
 use Rattle.git_date_tool.specs.declared.answers.refusals.Refusal.{Refusal}
-use Rattle.git_date_tool.specs.declared.answers.shown.DateLine.{DateLine}
+use Rattle.git_date_tool.specs.declared.answers.DateLine.{DateLine}
 
 -- the line that answers a text, what a warning beside it says after the text's number, whether the text was read, and whether
 -- its reader understood each word of it

@@ -19,12 +19,12 @@ use Rattle.git_date.specs.Show.Clocks.{moment_of}
 use Rattle.git_date.specs.declared.mode.DateMode.{DateMode}
 use Rattle.git_date_tool.specs.declared.answers.refusals.Refusal.{Refusal}
 use Rattle.git_date_tool.specs.declared.answers.refusals.Refusal.TheVariants.{NotShown}
-use Rattle.git_date_tool.specs.declared.answers.shown.DateLine.{DateLine}
-use Rattle.git_date_tool.specs.declared.answers.shown.DateLine.TheVariants as lines
-use Rattle.git_date_tool.specs.declared.answers.shown.Shown.{Shown}
-use Rattle.git_date_tool.specs.declared.answers.shown.Shown.TheVariants as shows
-use Rattle.git_date_tool.specs.declared.answers.shown.NoWay.{NoWay}
-use Rattle.git_date_tool.specs.declared.answers.shown.NoWay.TheVariants as lacks
+use Rattle.git_date_tool.specs.declared.answers.DateLine.{DateLine}
+use Rattle.git_date_tool.specs.declared.answers.DateLine.TheVariants as lines
+use Rattle.git_date_tool.specs.declared.answers.Shown.{Shown}
+use Rattle.git_date_tool.specs.declared.answers.Shown.TheVariants as shows
+use Rattle.git_date_tool.specs.declared.answers.NoWay.{NoWay}
+use Rattle.git_date_tool.specs.declared.answers.NoWay.TheVariants as lacks
 
 -- What is shown of a date: what a mode of Git shows, what a format of gix-date prints, or what a format of Git shows, by the clock of the
 -- moment's zone or by the time's own.

@@ -5,8 +5,8 @@ use Rattle.std.specs.Char.{is_ascii_alphanumeric}
 use Rattle.std.specs.Fmt.{decimal}
 use Rattle.std.specs.List.{prefix_len}
 use Rattle.gix_date.specs.Text.Characters.{minus, plus}
-use Rattle.gix_date_tool.specs.Lines.{with_newline}
-use Rattle.git_date.specs.declared.approximate.answer.Approximate.{Approximate}
+use Rattle.streams.specs.Lines.{with_newline}
+use Rattle.git_date.specs.declared.approximate.Approximate.{Approximate}
 use Rattle.git_date_tool.specs.declared.answers.warnings.Numbered.{Numbered}
 use Rattle.git_date_tool.specs.declared.answers.warnings.Numbered.TheVariants.{Line, Text}
 use Rattle.git_date_tool.specs.declared.answers.warnings.Warning.{Warning}

@@ -16,11 +16,11 @@ use Rattle.git_date_tool.specs.declared.program.arguments.Given.TheVariants.{Now
 use Rattle.git_date_tool.specs.declared.program.arguments.Request.{Request}
 use Rattle.git_date_tool.specs.declared.program.arguments.Step.{Step}
 use Rattle.git_date_tool.specs.declared.program.arguments.Step.TheVariants as steps
-use Rattle.git_date_tool.specs.declared.answers.readers.Reader.{Reader}
-use Rattle.git_date_tool.specs.declared.answers.readers.Reader.TheVariants.{Exact, Approxidate, Careful, Gix, Header}
-use Rattle.git_date_tool.specs.declared.answers.readers.Strictness.{Strictness}
-use Rattle.git_date_tool.specs.declared.answers.readers.Strictness.TheVariants.{Lenient, Strict}
-use Rattle.git_date_tool.specs.declared.answers.shown.NoWay.{NoWay}
+use Rattle.git_date_tool.specs.declared.answers.Reader.{Reader}
+use Rattle.git_date_tool.specs.declared.answers.Reader.TheVariants.{Exact, Approxidate, Careful, Gix, Header}
+use Rattle.git_date_tool.specs.declared.answers.Strictness.{Strictness}
+use Rattle.git_date_tool.specs.declared.answers.Strictness.TheVariants.{Lenient, Strict}
+use Rattle.git_date_tool.specs.declared.answers.NoWay.{NoWay}
 
 -- how texts are answered; what no option says is not there
 pub record Asked : Type 0 where

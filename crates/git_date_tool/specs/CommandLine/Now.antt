@@ -3,11 +3,11 @@ use Rattle.std.specs.Prelude.{◌≡◌, ℕ, List, ℤ, pos, ◌*ℤ◌, Option
 use Rattle.jiff.specs.Types.{TimeZone}
 use Rattle.jiff.specs.Words.{IsTimestampNanos}
 use Rattle.gix_date.specs.declared.time.Time.{Time}
-use Rattle.gix_date_tool.specs.Command.{moment_or_why}
-use Rattle.gix_date_tool.specs.declared.program.arguments.NoMoment.{NoMoment}
-use Rattle.gix_date_tool.specs.declared.program.arguments.NoMoment.TheVariants.{Conversion}
+use Rattle.streams.specs.Moments.{moment_or_why}
+use Rattle.streams.specs.declared.program.NoMoment.{NoMoment}
+use Rattle.streams.specs.declared.program.NoMoment.TheVariants.{Conversion}
 use Rattle.git_date.specs.Exact.Outcome.{DateOutcomeAt}
-use Rattle.git_date.specs.declared.date.ReadDate.{ReadDate}
+use Rattle.git_date.specs.declared.reader.ReadDate.{ReadDate}
 use Rattle.git_date.specs.declared.error.DateError.{DateError}
 
 -- the last instant, in nanoseconds since 1970: no date is ahead of it

@@ -2,18 +2,18 @@
 use Rattle.std.specs.Prelude.{ℕ, List, [], ◌++◌, Option, Some, None, option_map, codes}
 use Rattle.std.specs.Borrow.{Bor}
 use Rattle.std.specs.Fmt.{decimal}
-use Rattle.git_date.specs.declared.format.fault.FormatFault.{FormatFault}
-use Rattle.git_date.specs.declared.format.fault.FormatFault.TheVariants as formats
-use Rattle.gix_date_tool.specs.Messages.{no_moment_words}
-use Rattle.git_date_tool.specs.declared.answers.shown.NoWay.{NoWay}
-use Rattle.git_date_tool.specs.declared.answers.shown.NoWay.TheVariants.{Unknown, Format}
+use Rattle.git_date.specs.declared.format.error.FormatFault.{FormatFault}
+use Rattle.git_date.specs.declared.format.error.FormatFault.TheVariants as formats
+use Rattle.streams.specs.Moments.{no_moment_words}
+use Rattle.git_date_tool.specs.declared.answers.NoWay.{NoWay}
+use Rattle.git_date_tool.specs.declared.answers.NoWay.TheVariants.{Unknown, Format}
 use Rattle.git_date_tool.specs.declared.program.arguments.Given.{Given}
 use Rattle.git_date_tool.specs.declared.program.arguments.Given.TheVariants.{Now, Zone, As, Show}
 use Rattle.git_date_tool.specs.declared.program.wrong.WrongWords.{WrongWords}
 use Rattle.git_date_tool.specs.declared.program.wrong.WrongWords.TheVariants.{UnknownOption, NoValue, Twice, TwoDemands, UnknownReader, UnknownMode, WrongFormat, LateOption, NotText, NoMoment, NoZone}
-use Rattle.git_date_tool.specs.declared.zones.files.ZoneFault.{ZoneFault}
-use Rattle.git_date_tool.specs.declared.zones.files.ZoneFault.TheVariants as faults
-use Rattle.git_date.specs.declared.zones.places.TheConstants.{MACHINE_ZONE}
+use Rattle.git_date_tool.specs.declared.zones.ZoneFault.{ZoneFault}
+use Rattle.git_date_tool.specs.declared.zones.ZoneFault.TheVariants as faults
+use Rattle.git_date.specs.declared.zones.texts.TheConstants.{MACHINE_ZONE}
 use Rattle.git_date_tool.specs.declared.zones.ZoneText.{ZoneText}
 use Rattle.git_date_tool.specs.declared.zones.ZoneText.TheVariants as texts
 

@@ -1,9 +1,9 @@
 -- What a fault of reading a zone's file says.
 use Rattle.std.specs.declared.io.ErrorKind.{ErrorKind}
 use Rattle.std.specs.declared.io.ErrorKind.TheVariants as kinds
-use Rattle.git_date_tool.specs.declared.zones.files.NoZone.{NoZone}
-use Rattle.git_date_tool.specs.declared.zones.files.NoZone.TheVariants.{Memory, Fault, Text}
-use Rattle.git_date_tool.specs.declared.zones.files.ZoneFault.TheVariants.{NoFile, Denied}
+use Rattle.git_date_tool.specs.declared.zones.NoZone.{NoZone}
+use Rattle.git_date_tool.specs.declared.zones.NoZone.TheVariants.{Memory, Fault, Text}
+use Rattle.git_date_tool.specs.declared.zones.ZoneFault.TheVariants.{NoFile, Denied}
 
 -- there is no such file, or it may not be read; any other fault is the machine's
 abbrev pub no_zone_of : ErrorKind → NoZone

@@ -8,14 +8,14 @@ use Rattle.jiff_tz.specs.System.{IsTable as IsTableZone}
 use Rattle.jiff_tz.specs.declared.tzif.Tzif.{Tzif}
 use Rattle.git_date.specs.Exact.Places.{IsTable, IsZoneWithoutFile, file_of}
 use Rattle.git_date.specs.Exact.ZoneTexts.{zone_offset}
-use Rattle.git_date_tool.specs.declared.zones.files.TheConstants.{MAX_FILE_BYTES}
+use Rattle.git_date_tool.specs.declared.zones.TheConstants.{MAX_FILE_BYTES}
 use Rattle.git_date_tool.specs.declared.zones.ZoneSource.{ZoneSource}
 use Rattle.git_date_tool.specs.declared.zones.ZoneSource.TheVariants as sources
 use Rattle.git_date_tool.specs.declared.zones.ZoneText.{ZoneText}
 use Rattle.git_date_tool.specs.declared.zones.ZoneText.TheVariants as texts
 
 -- the zone that always has this offset
-abbrev pub IsFixedAt : ℤ → TimeZone → Type 0
+unfoldable pub IsFixedAt : ℤ → TimeZone → Type 0
 IsFixedAt seconds zone = (o : Offset) × (o.seconds ≡ seconds) × (zone ≡ fixed_zone o)
 
 -- the zone of an offset, where there is one

@@ -1,6 +1,6 @@
 //! Why a text is answered by no date.
 ghost use Rattle.std.specs.Prelude.{◌≡◌};
-ghost use Rattle.git_date_tool.specs.Answers.Refusals.{is_unclear, refusal_name, refusal_place, of_git, of_careful, of_gix};
+ghost use Rattle.git_date_tool.specs as Spec;
 
 use git_date::DateError;
 use gix_date::{CarefulError, ParseError};
@@ -45,7 +45,7 @@ pub enum Refusal {
 impl Refusal {
     /// What it is called.
     pub fn name(self) -> &'static str
-        ensures { result.now ≡ refusal_name self }
+        ensures { result.now ≡ Spec.refusal_name self }
     {
         match self {
             Refusal::NotText => "not text",
@@ -69,7 +69,7 @@ impl Refusal {
 
     /// The place that it is about.
     pub fn place(self) -> Option<usize>
-        ensures { result ≡ refusal_place self }
+        ensures { result ≡ Spec.refusal_place self }
     {
         match self {
             Refusal::NumberTooLarge(place) => Some(place),
@@ -83,23 +83,23 @@ impl Refusal {
 
     /// Whether the reader does not understand the text, or a word of it.
     pub fn is_unclear(self) -> bool
-        ensures { result ≡ is_unclear self }
+        ensures { result ≡ Spec.is_unclear self }
     {
-        match self {
-            Refusal::NotUnderstood => true,
-            Refusal::Ignored(_) => true,
-            Refusal::Unreadable => true,
-            Refusal::Unclear(_) => true,
-            Refusal::UnknownFormat => true,
-            Refusal::NoHeader => true,
-            _ => false,
-        }
+        matches!(
+            self,
+            Refusal::NotUnderstood
+                | Refusal::Ignored(_)
+                | Refusal::Unreadable
+                | Refusal::Unclear(_)
+                | Refusal::UnknownFormat
+                | Refusal::NoHeader
+        )
     }
 }
 
 /// The refusal of Git's readers.
 pub(crate) fn of_git(error: DateError) -> Refusal
-    ensures { result ≡ of_git error }
+    ensures { result ≡ Spec.of_git error }
 {
     match error {
         DateError::Unreadable => Refusal::Unreadable,
@@ -112,7 +112,7 @@ pub(crate) fn of_git(error: DateError) -> Refusal
 
 /// The refusal of gix-date's reader.
 pub(crate) fn of_gix(error: ParseError) -> Refusal
-    ensures { result ≡ of_gix error }
+    ensures { result ≡ Spec.of_gix error }
 {
     match error {
         ParseError::UnknownFormat => Refusal::UnknownFormat,
@@ -124,7 +124,7 @@ pub(crate) fn of_gix(error: ParseError) -> Refusal
 
 /// The refusal of the careful reader.
 pub(crate) fn of_careful(error: CarefulError) -> Refusal
-    ensures { result ≡ of_careful error }
+    ensures { result ≡ Spec.of_careful error }
 {
     match error {
         CarefulError::Unclear(place) => Refusal::Unclear(place),

@@ -2,17 +2,14 @@
 ghost use Rattle.std.specs.Prelude.{◌≡◌, ◌≤◌, ◌++◌, None, Some, codes, is_none, length};
 ghost use Rattle.std.specs.List.{prefix_len};
 ghost use Rattle.std.specs.Char.{is_ascii_alphanumeric};
-ghost use Rattle.git_date.specs.Exact.Outcome.{IsPlaceIn};
-ghost use Rattle.gix_date_tool.specs.Messages.{Reports, WritesMessage};
-ghost use Rattle.gix_date_tool.specs.Lines.{with_newline};
-ghost use Rattle.gix_date_tool.specs.Run.{change};
-ghost use Rattle.git_date_tool.specs.Answers.Readers.{HasPlace};
-ghost use Rattle.git_date_tool.specs.Answers.Warnings.{called, ignored_front, ignored_view, warning_line, warning_of, warning_view, warning_words, word_at, word_len, words_by};
+ghost use Rattle.git_date_tool.specs as Spec;
+ghost use Rattle.git_date.specs as GitDate;
+ghost use Rattle.streams.specs as Streams;
 
 use git_date::Approximate;
 use gix_date::bytes::text_of;
 use gix_date::device::Sink;
-use gix_date_tool::write_message;
+use streams::write_message;
 
 /// What is said beside a date: that nothing of its text was understood, or what was ignored. There may be nothing to say.
 #[derive(Clone, Copy, Debug)]
@@ -24,8 +21,8 @@ pub struct Warning<'a> {
 
 /// What is said of what was found in a text.
 pub(crate) fn warning_of<'a>(text: &'a [u8], found: &Approximate) -> Warning<'a>
-    requires { HasPlace text.now found.now }
-    ensures { warning_view result ≡ warning_of text.now found.now }
+    requires { Spec.HasPlace text.now found.now }
+    ensures { Spec.warning_view result ≡ Spec.warning_of text.now found.now }
 {
     let ignored = match found.ignored {
         Some(place) => Some((place, word_at(text, place))),
@@ -38,9 +35,10 @@ pub(crate) fn warning_of<'a>(text: &'a [u8], found: &Approximate) -> Warning<'a>
 }
 
 /// The letters and digits from a place on, perhaps after a sign.
+#[tactic(auto, using(crate::proofs::Words::word_is_utf8))]
 fn word_at(text: &[u8], place: usize) -> &str
-    requires { IsPlaceIn text.now place }
-    ensures { result.now ≡ word_at text.now place }
+    requires { GitDate.IsPlaceIn text.now place }
+    ensures { result.now ≡ Spec.word_at text.now place }
 {
     let rest = &text[place..];
     match text_of(&rest[..word_len(rest)]) {
@@ -52,7 +50,7 @@ fn word_at(text: &[u8], place: usize) -> &str
 /// How many bytes the word in front has.
 #[tactic(auto, using(crate::proofs::Words::word_within))]
 fn word_len(text: &[u8]) -> usize
-    ensures value { result ≡ word_len text.now }
+    ensures value { result ≡ Spec.word_len text.now }
     ensures within { result ≤ length text.now }
 {
     match text {
@@ -84,7 +82,7 @@ pub enum Numbered {
 impl Numbered {
     /// How a line of it begins.
     fn called(self) -> &'static str
-        ensures { result.now ≡ called self }
+        ensures { result.now ≡ Spec.called self }
     {
         match self {
             Numbered::Line => "git_date: line ",
@@ -97,7 +95,7 @@ impl Warning<'_> {
     /// Whether there is nothing to say.
     #[tactic(auto, using(crate::proofs::Told::unsaid))]
     pub(crate) fn is_empty(self) -> bool
-        ensures { result ≡ is_none (warning_words (warning_view self.entry)) }
+        ensures { result ≡ is_none (Spec.warning_words (Spec.warning_view self.entry)) }
     {
         match self.ignored {
             Some(_) => false,
@@ -108,8 +106,8 @@ impl Warning<'_> {
     /// Puts the line of it into the messages, if there is something to say of the text with this number. What they refuse is
     /// not said.
     pub(crate) fn tell<M: Sink>(self, numbered: Numbered, number: u64, messages: &mut M)
-        ensures { Reports (change (M.known messages.old) (M.known messages.new))
-            (warning_line numbered number (warning_words (warning_view self.entry))) }
+        ensures { Streams.Reports (Streams.change (M.known messages.old) (M.known messages.new))
+            (Spec.warning_line numbered number (Spec.warning_words (Spec.warning_view self.entry))) }
     {
         match self.ignored {
             Some(ignored) => tell_ignored(numbered, number, self.understood, ignored, messages),
@@ -126,8 +124,8 @@ fn tell_ignored<M: Sink>(
     ignored: (usize, &str),
     messages: &mut M,
 )
-    ensures { Reports (change (M.known messages.old) (M.known messages.new))
-        (warning_line numbered number (words_by understood (Some (ignored_view ignored.entry)))) }
+    ensures { Streams.Reports (Streams.change (M.known messages.old) (M.known messages.new))
+        (Spec.warning_line numbered number (Spec.words_by understood (Some (Spec.ignored_view ignored.entry)))) }
 {
     let mut digits = itoa::Buffer::new();
     let mut place = itoa::Buffer::new();
@@ -142,6 +140,7 @@ fn tell_ignored<M: Sink>(
 }
 
 /// Puts these words into the messages, in one line.
+#[tactic(auto, using(crate::proofs::Told::word_told))]
 fn tell_word<'a, M: Sink>(
     called: &'a str,
     number: &'a str,
@@ -150,15 +149,15 @@ fn tell_word<'a, M: Sink>(
     word: &'a str,
     messages: &mut M,
 )
-    ensures { WritesMessage (change (M.known messages.old) (M.known messages.new))
-        (with_newline (called.now ++ (number.now ++ (front.now ++ (place.now ++ (codes ": " ++ word.now)))))) }
+    ensures { Streams.WritesMessage (Streams.change (M.known messages.old) (M.known messages.new))
+        (Streams.with_newline (called.now ++ (number.now ++ (front.now ++ (place.now ++ (codes ": " ++ word.now)))))) }
 {
     write_message(&[called, number, front, place, ": ", word, "\n"], messages);
 }
 
 /// How that begins.
 fn front(understood: bool) -> &'static str
-    ensures { result.now ≡ ignored_front understood }
+    ensures { result.now ≡ Spec.ignored_front understood }
 {
     if understood {
         ": ignored from byte "
@@ -169,8 +168,8 @@ fn front(understood: bool) -> &'static str
 
 /// Puts into the messages that nothing was understood, if so.
 fn tell_nothing<M: Sink>(numbered: Numbered, number: u64, understood: bool, messages: &mut M)
-    ensures { Reports (change (M.known messages.old) (M.known messages.new))
-        (warning_line numbered number (words_by understood None)) }
+    ensures { Streams.Reports (Streams.change (M.known messages.old) (M.known messages.new))
+        (Spec.warning_line numbered number (Spec.words_by understood None)) }
 {
     if !understood {
         let mut digits = itoa::Buffer::new();
@@ -180,8 +179,17 @@ fn tell_nothing<M: Sink>(numbered: Numbered, number: u64, understood: bool, mess
 
 /// Puts into the messages that nothing was understood of the text with this number.
 fn tell_number<'a, M: Sink>(called: &'a str, number: &'a str, messages: &mut M)
-    ensures { WritesMessage (change (M.known messages.old) (M.known messages.new))
-        (with_newline (called.now ++ (number.now ++ codes ": nothing understood"))) }
+    ensures { Streams.WritesMessage (Streams.change (M.known messages.old) (M.known messages.new))
+        (Streams.with_newline (called.now ++ (number.now ++ codes ": nothing understood"))) }
 {
-    write_message(&[called, number, ": nothing understood\n"], messages);
+    tell_line(called, number, ": nothing understood", messages);
+}
+
+/// Puts this into the messages, in one line.
+#[tactic(auto, using(crate::proofs::Told::number_told))]
+fn tell_line<'a, M: Sink>(called: &'a str, number: &'a str, said: &'a str, messages: &mut M)
+    ensures { Streams.WritesMessage (Streams.change (M.known messages.old) (M.known messages.new))
+        (Streams.with_newline (called.now ++ (number.now ++ said.now))) }
+{
+    write_message(&[called, number, said, "\n"], messages);
 }

@@ -3,11 +3,9 @@ ghost use Rattle.std.specs.Prelude.{◌≡◌, map, option_map, string_bytes};
 ghost use Rattle.std.specs.List.{find};
 ghost use Rattle.std.specs.Option.{is_some};
 ghost use Rattle.std.specs.Result.{result_map_both};
-ghost use Rattle.git_date_tool.specs.CommandLine.Command.{asked, asked_from, at_end, command_view, cut_view, cut_word, first_asked, is_given, is_option, option_named, reader_named, request_view, step_of, step_on, step_view, taken, taken_view, with_all, with_demand, with_option, with_texts, with_value};
-ghost use Rattle.git_date_tool.specs.CommandLine.Wrong.{option_text, wrong_words};
+ghost use Rattle.git_date_tool.specs as Spec;
 
-use crate::answers::readers::{Reader, Strictness};
-use crate::answers::shown::{NoWay, Shown, shown_named};
+use crate::answers::{NoWay, Reader, Shown, Strictness, shown_named};
 use crate::program::wrong::WrongWords;
 use gix_date::names::value_named;
 
@@ -69,21 +67,21 @@ pub(crate) enum Step<'w> {
 
 /// Reads the words of a command line, without the program's name.
 pub(crate) fn read_words(words: &[String]) -> Result<Command<'_>, WrongWords<'_>>
-    ensures { result_map_both command_view wrong_words result ≡ asked (map string_bytes words.now) }
+    ensures { result_map_both Spec.command_view Spec.wrong_words result ≡ Spec.asked (map string_bytes words.now) }
 {
     read_from(nothing_asked(), None, words)
 }
 
 /// Reads words after others, by which this is asked and perhaps an option waits for its value. No option stands twice, so that
 /// these words are few.
-#[tactic(auto, unfolding(crate::specs::CommandLine::Command::asked_from))]
+#[tactic(auto, unfolding(crate::specs::asked_from))]
 fn read_from<'w>(
     request: Request<'w>,
     waits: Option<Given>,
     words: &'w [String],
 ) -> Result<Command<'w>, WrongWords<'w>>
-    ensures { result_map_both command_view wrong_words result
-        ≡ asked_from (request_view request.entry) waits (map string_bytes words.now) }
+    ensures { result_map_both Spec.command_view Spec.wrong_words result
+        ≡ Spec.asked_from (Spec.request_view request.entry) waits (map string_bytes words.now) }
 {
     let Some((first, more)) = words.split_first() else {
         return at_end(request, waits);
@@ -99,7 +97,7 @@ fn read_from<'w>(
 
 /// What the next word comes to.
 fn step_of<'w>(request: Request<'w>, waits: Option<Given>, word: &'w str) -> Step<'w>
-    ensures { step_view result ≡ step_of (request_view request.entry) waits word.now }
+    ensures { Spec.step_view result ≡ Spec.step_of (Spec.request_view request.entry) waits word.now }
 {
     if let Some(given) = waits {
         return stepped(with_value(request, given, word));
@@ -121,7 +119,7 @@ fn step_of<'w>(request: Request<'w>, waits: Option<Given>, word: &'w str) -> Ste
 
 /// What such a word comes to.
 fn stepped<'w>(next: Result<(Request<'w>, Option<Given>), WrongWords<'w>>) -> Step<'w>
-    ensures { step_view result ≡ step_on (result_map_both taken_view wrong_words next.entry) }
+    ensures { Spec.step_view result ≡ Spec.step_on (result_map_both Spec.taken_view Spec.wrong_words next.entry) }
 {
     match next {
         Ok((request, waits)) => Step::On(request, waits),
@@ -131,14 +129,14 @@ fn stepped<'w>(next: Result<(Request<'w>, Option<Given>), WrongWords<'w>>) -> St
 
 /// The request with these texts.
 fn with_all<'w>(request: Request<'w>, texts: &'w [String]) -> Request<'w>
-    ensures { request_view result ≡ with_all (request_view request.entry) (map string_bytes texts.now) }
+    ensures { Spec.request_view result ≡ Spec.with_all (Spec.request_view request.entry) (map string_bytes texts.now) }
 {
     Request { texts, ..request }
 }
 
 /// What is asked without a word.
 fn nothing_asked<'w>() -> Request<'w>
-    ensures { request_view result ≡ first_asked }
+    ensures { Spec.request_view result ≡ Spec.first_asked }
 {
     Request {
         reader: None,
@@ -152,14 +150,14 @@ fn nothing_asked<'w>() -> Request<'w>
 
 /// Whether a word is an option, or none that the program has.
 fn is_option(word: &str) -> bool
-    ensures { result ≡ is_option word.now }
+    ensures { result ≡ Spec.is_option word.now }
 {
     matches!(word.as_bytes(), [b'-', ..])
 }
 
 /// What is asked at the end of the words. The last option may not wait for its value.
 fn at_end<'w>(request: Request<'w>, waits: Option<Given>) -> Result<Command<'w>, WrongWords<'w>>
-    ensures { result_map_both command_view wrong_words result ≡ at_end (request_view request.entry) waits }
+    ensures { result_map_both Spec.command_view Spec.wrong_words result ≡ Spec.at_end (Spec.request_view request.entry) waits }
 {
     match waits {
         Some(given) => Err(WrongWords::NoValue(given)),
@@ -170,7 +168,7 @@ fn at_end<'w>(request: Request<'w>, waits: Option<Given>) -> Result<Command<'w>,
 /// The first option among words.
 fn first_option(words: &[String]) -> Option<&str>
     ensures { option_map (λ word. word.now) result
-        ≡ option_map string_bytes (find (λ word. is_option (string_bytes word)) words.now) }
+        ≡ option_map string_bytes (find (λ word. Spec.is_option (string_bytes word)) words.now) }
 {
     let word = words.iter().find(|word| is_option(word.as_str()))?;
     Some(word.as_str())
@@ -178,8 +176,8 @@ fn first_option(words: &[String]) -> Option<&str>
 
 /// What is asked with texts, among which no option may stand.
 fn with_texts<'w>(request: Request<'w>, texts: &'w [String]) -> Result<Command<'w>, WrongWords<'w>>
-    ensures { result_map_both command_view wrong_words result
-        ≡ with_texts (request_view request.entry) (map string_bytes texts.now) }
+    ensures { result_map_both Spec.command_view Spec.wrong_words result
+        ≡ Spec.with_texts (Spec.request_view request.entry) (map string_bytes texts.now) }
 {
     match first_option(texts) {
         Some(word) => Err(WrongWords::LateOption(word)),
@@ -192,7 +190,7 @@ fn taken<'w>(
     request: Request<'w>,
     word: &'w str,
 ) -> Result<(Request<'w>, Option<Given>), WrongWords<'w>>
-    ensures { result_map_both taken_view wrong_words result ≡ taken (request_view request.entry) word.now }
+    ensures { result_map_both Spec.taken_view Spec.wrong_words result ≡ Spec.taken (Spec.request_view request.entry) word.now }
 {
     if word == "--strict" {
         return with_demand(request, word, Strictness::Strict);
@@ -209,7 +207,7 @@ fn taken<'w>(
 
 /// The name of an option, and the value after `=`.
 fn cut_word(word: &str) -> (&str, Option<&str>)
-    ensures { cut_view result ≡ cut_word word.now }
+    ensures { Spec.cut_view result ≡ Spec.cut_word word.now }
 {
     match word.split_once('=') {
         Some((name, value)) => (name, Some(value)),
@@ -223,8 +221,8 @@ fn with_demand<'w>(
     word: &'w str,
     strictness: Strictness,
 ) -> Result<(Request<'w>, Option<Given>), WrongWords<'w>>
-    ensures { result_map_both taken_view wrong_words result
-        ≡ with_demand (request_view request.entry) word.now strictness }
+    ensures { result_map_both Spec.taken_view Spec.wrong_words result
+        ≡ Spec.with_demand (Spec.request_view request.entry) word.now strictness }
 {
     match request.strictness {
         Some(_) => Err(WrongWords::TwoDemands(word)),
@@ -244,8 +242,8 @@ fn with_option<'w>(
     given: Given,
     value: Option<&'w str>,
 ) -> Result<(Request<'w>, Option<Given>), WrongWords<'w>>
-    ensures { result_map_both taken_view wrong_words result
-        ≡ with_option (request_view request.entry) given (option_map (λ value. value.now) value.entry) }
+    ensures { result_map_both Spec.taken_view Spec.wrong_words result
+        ≡ Spec.with_option (Spec.request_view request.entry) given (option_map (λ value. value.now) value.entry) }
 {
     match value {
         Some(value) => with_value(request, given, value),
@@ -255,7 +253,7 @@ fn with_option<'w>(
 
 /// The option of this name.
 fn option_named(word: &str) -> Option<Given>
-    ensures { result ≡ option_named word.now }
+    ensures { result ≡ Spec.option_named word.now }
 {
     let options = [
         ("--now", Given::Now),
@@ -269,7 +267,7 @@ fn option_named(word: &str) -> Option<Given>
 impl Given {
     /// Its name.
     pub(crate) fn text(self) -> &'static str
-        ensures { result.now ≡ option_text self }
+        ensures { result.now ≡ Spec.option_text self }
     {
         match self {
             Given::Now => "--now",
@@ -282,7 +280,7 @@ impl Given {
 
 /// Whether a request has the value of an option.
 fn is_given(request: Request<'_>, given: Given) -> bool
-    ensures { result ≡ is_given (request_view request.entry) given }
+    ensures { result ≡ Spec.is_given (Spec.request_view request.entry) given }
 {
     match given {
         Given::Now => request.now.is_some(),
@@ -298,53 +296,42 @@ fn with_value<'w>(
     given: Given,
     value: &'w str,
 ) -> Result<(Request<'w>, Option<Given>), WrongWords<'w>>
-    ensures { result_map_both taken_view wrong_words result ≡ with_value (request_view request.entry) given value.now }
+    ensures { result_map_both Spec.taken_view Spec.wrong_words result ≡ Spec.with_value (Spec.request_view request.entry) given value.now }
 {
     if is_given(request, given) {
         return Err(WrongWords::Twice(given));
     }
-    match given {
-        Given::Now => Ok((
-            Request {
-                now: Some(value),
-                ..request
-            },
-            None,
-        )),
-        Given::Zone => Ok((
-            Request {
-                zone: Some(value),
-                ..request
-            },
-            None,
-        )),
+    let next = match given {
+        Given::Now => Request {
+            now: Some(value),
+            ..request
+        },
+        Given::Zone => Request {
+            zone: Some(value),
+            ..request
+        },
         Given::As => match reader_named(value) {
-            Some(reader) => Ok((
-                Request {
-                    reader: Some(reader),
-                    ..request
-                },
-                None,
-            )),
-            None => Err(WrongWords::UnknownReader(value)),
+            Some(reader) => Request {
+                reader: Some(reader),
+                ..request
+            },
+            None => return Err(WrongWords::UnknownReader(value)),
         },
         Given::Show => match shown_named(value) {
-            Ok(shown) => Ok((
-                Request {
-                    shown: Some(shown),
-                    ..request
-                },
-                None,
-            )),
-            Err(NoWay::Unknown) => Err(WrongWords::UnknownMode(value)),
-            Err(NoWay::Format(fault)) => Err(WrongWords::WrongFormat(value, fault)),
+            Ok(shown) => Request {
+                shown: Some(shown),
+                ..request
+            },
+            Err(NoWay::Unknown) => return Err(WrongWords::UnknownMode(value)),
+            Err(NoWay::Format(fault)) => return Err(WrongWords::WrongFormat(value, fault)),
         },
-    }
+    };
+    Ok((next, None))
 }
 
 /// The reader of this name.
 fn reader_named(word: &str) -> Option<Reader>
-    ensures { result ≡ reader_named word.now }
+    ensures { result ≡ Spec.reader_named word.now }
 {
     let readers = [
         ("exact", Reader::Exact),

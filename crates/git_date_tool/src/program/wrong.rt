@@ -1,12 +1,11 @@
 //! What may be wrong with a command line.
 ghost use Rattle.std.specs.Prelude.{◌≡◌, ◌++◌};
-ghost use Rattle.git_date_tool.specs.CommandLine.Wrong.{format_fault_place, format_fault_text, place_digits, subject_of, wrong_lead, wrong_place, wrong_subject, wrong_text, zone_fault_text, zone_lead, zone_subject};
+ghost use Rattle.git_date_tool.specs as Spec;
 
 use crate::program::arguments::Given;
-use crate::zones::ZoneText;
-use crate::zones::files::ZoneFault;
+use crate::zones::{ZoneFault, ZoneText};
 use git_date::{FormatFault, MACHINE_ZONE};
-use gix_date_tool::NoMoment;
+use streams::NoMoment;
 
 /// What is wrong with the words of a command line.
 #[derive(Clone, Copy)]
@@ -38,7 +37,7 @@ pub(crate) enum WrongWords<'w> {
 impl<'w> WrongWords<'w> {
     /// The word that is wrong, where it is one.
     pub(crate) fn subject(self) -> Option<&'w str>
-        ensures { subject_of result ≡ wrong_subject self.entry }
+        ensures { Spec.subject_of result ≡ Spec.wrong_subject self.entry }
     {
         match self {
             WrongWords::UnknownOption(word) => Some(word),
@@ -57,7 +56,7 @@ impl<'w> WrongWords<'w> {
 
     /// How what is said begins.
     pub(crate) fn lead(self) -> &'static str
-        ensures { result.now ≡ wrong_lead self.entry }
+        ensures { result.now ≡ Spec.wrong_lead self.entry }
     {
         match self {
             WrongWords::WrongFormat(_, _) => "is no format: the directive at byte ",
@@ -69,7 +68,7 @@ impl<'w> WrongWords<'w> {
 
     /// The place that is said then, where there is one.
     pub(crate) fn place(self) -> Option<usize>
-        ensures { result ≡ wrong_place self.entry }
+        ensures { result ≡ Spec.wrong_place self.entry }
     {
         match self {
             WrongWords::WrongFormat(_, fault) => Some(format_fault_place(fault)),
@@ -79,7 +78,7 @@ impl<'w> WrongWords<'w> {
 
     /// What is said of it then.
     pub(crate) fn text(self) -> &'static str
-        ensures { result.now ≡ wrong_text self.entry }
+        ensures { result.now ≡ Spec.wrong_text self.entry }
     {
         match self {
             WrongWords::UnknownOption(_) =>
@@ -106,7 +105,7 @@ impl<'w> WrongWords<'w> {
 
 /// What is said of the directive that has this fault.
 fn format_fault_text(fault: FormatFault) -> &'static str
-    ensures { result.now ≡ format_fault_text fault }
+    ensures { result.now ≡ Spec.format_fault_text fault }
 {
     match fault {
         FormatFault::FlagRefused(_) => " takes no flags and no width",
@@ -116,7 +115,7 @@ fn format_fault_text(fault: FormatFault) -> &'static str
 }
 
 fn format_fault_place(fault: FormatFault) -> usize
-    ensures { result ≡ format_fault_place fault }
+    ensures { result ≡ Spec.format_fault_place fault }
 {
     match fault {
         FormatFault::FlagRefused(place) => place,
@@ -127,7 +126,7 @@ fn format_fault_place(fault: FormatFault) -> usize
 
 /// A place in digits, where there is one.
 pub(crate) fn place_digits(place: Option<usize>, digits: &mut itoa::Buffer) -> &str
-    ensures { result.now ≡ place_digits place }
+    ensures { result.now ≡ Spec.place_digits place }
 {
     match place {
         Some(place) => digits.format(place),
@@ -138,7 +137,7 @@ pub(crate) fn place_digits(place: Option<usize>, digits: &mut itoa::Buffer) -> &
 impl<'w> ZoneText<'w> {
     /// The text itself, where it is one, or else the file of the machine.
     fn subject(self) -> Option<&'w str>
-        ensures { subject_of result ≡ zone_subject self.entry }
+        ensures { Spec.subject_of result ≡ Spec.zone_subject self.entry }
     {
         match self {
             ZoneText::Zone(text) => Some(text),
@@ -151,7 +150,7 @@ impl<'w> ZoneText<'w> {
 
     /// How begins what is said of it.
     fn lead(self) -> &'static str
-        ensures { result.now ≡ zone_lead self.entry }
+        ensures { result.now ≡ Spec.zone_lead self.entry }
     {
         match self {
             ZoneText::Zone(_) => "is no zone: ",
@@ -166,7 +165,7 @@ impl<'w> ZoneText<'w> {
 impl ZoneFault {
     /// What is said of it.
     fn text(self) -> &'static str
-        ensures { result.now ≡ zone_fault_text self }
+        ensures { result.now ≡ Spec.zone_fault_text self }
     {
         match self {
             ZoneFault::NotText => "it is not UTF-8",

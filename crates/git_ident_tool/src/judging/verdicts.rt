@@ -1,8 +1,7 @@
 //! Identity lines judged, and what is told of them.
 ghost use Rattle.std.specs.Prelude.{◌≡◌, ◌++◌, IfOk, OnOk};
 ghost use Rattle.std.specs.List.{find};
-ghost use Rattle.git_ident_tool.specs.Objects.{begins};
-ghost use Rattle.git_ident_tool.specs.Verdicts.{role_start, role_words, fsck_words, verdict_words, roles_of, role_in, fault_of, is_told, told, object_told};
+ghost use Rattle.git_ident_tool.specs as Spec;
 
 use crate::stream::header::Kind;
 use gix_signature::{FsckId, fsck_of};
@@ -28,7 +27,7 @@ pub(crate) enum Role {
 impl Role {
     /// How a line of a header begins that names it.
     pub(crate) fn start(self) -> &'static [u8]
-        ensures { result.now ≡ role_start self }
+        ensures { result.now ≡ Spec.role_start self }
     {
         match self {
             Role::Author => b"author ",
@@ -39,7 +38,7 @@ impl Role {
 
     /// What it is called.
     fn name(self) -> &'static [u8]
-        ensures { result.now ≡ role_words self }
+        ensures { result.now ≡ Spec.role_words self }
     {
         match self {
             Role::Author => b"author",
@@ -55,7 +54,7 @@ const TAG_ROLES: [Role; 1] = [Role::Tagger];
 
 /// The roles that the header of such an object has.
 fn roles_of(kind: Kind) -> &'static [Role]
-    ensures { result.now ≡ roles_of kind }
+    ensures { result.now ≡ Spec.roles_of kind }
 {
     match kind {
         Kind::Commit => &COMMIT_ROLES,
@@ -67,14 +66,14 @@ fn roles_of(kind: Kind) -> &'static [Role]
 
 /// The role of a line in the header of such an object.
 pub(crate) fn role_in(kind: Kind, line: &[u8]) -> Option<Role>
-    ensures { result ≡ role_in kind line.now }
+    ensures { result ≡ Spec.role_in kind line.now }
 {
     role_among(line, roles_of(kind))
 }
 
 /// The first of these roles that a line has.
 fn role_among(line: &[u8], roles: &[Role]) -> Option<Role>
-    ensures { result ≡ find (λ role. begins line.now (role_start role)) roles.now }
+    ensures { result ≡ find (λ role. Spec.begins line.now (Spec.role_start role)) roles.now }
 {
     roles
         .iter()
@@ -84,7 +83,7 @@ fn role_among(line: &[u8], roles: &[Role]) -> Option<Role>
 
 /// The message of `git fsck` on an identity line, if it has one.
 pub(crate) fn fault_of(text: &[u8]) -> Option<FsckId>
-    ensures { result ≡ fault_of text.now }
+    ensures { result ≡ Spec.fault_of text.now }
 {
     match fsck_of(text) {
         Some(fault) => Some(fault.id),
@@ -94,7 +93,7 @@ pub(crate) fn fault_of(text: &[u8]) -> Option<FsckId>
 
 /// What such a message is called, or that there is none.
 fn verdict_name(fault: Option<FsckId>) -> &'static [u8]
-    ensures { result.now ≡ verdict_words fault }
+    ensures { result.now ≡ Spec.verdict_words fault }
 {
     match fault {
         Some(id) => fsck_name(id),
@@ -104,7 +103,7 @@ fn verdict_name(fault: Option<FsckId>) -> &'static [u8]
 
 /// What Git calls a message.
 fn fsck_name(id: FsckId) -> &'static [u8]
-    ensures { result.now ≡ fsck_words id }
+    ensures { result.now ≡ Spec.fsck_words id }
 {
     match id {
         FsckId::NulInHeader => b"nulInHeader",
@@ -123,7 +122,7 @@ fn fsck_name(id: FsckId) -> &'static [u8]
 
 /// Whether a line with such a verdict is told of.
 pub(crate) fn is_told(telling: Telling, fault: Option<FsckId>) -> bool
-    ensures { result ≡ is_told telling fault }
+    ensures { result ≡ Spec.is_told telling fault }
 {
     match telling {
         Telling::All => true,
@@ -139,7 +138,7 @@ pub(crate) fn object_reply(
     fault: Option<FsckId>,
     text: &[u8],
 ) -> Result<Vec<u8>, AllocError>
-    ensures { IfOk result (λ reply. reply.items ≡ object_told id.now role fault text.now) }
+    ensures { IfOk result (λ reply. reply.items ≡ Spec.object_told id.now role fault text.now) }
 {
     let mut reply = Vec::new(alloc);
     reply.extend_from_slice(id)?;
@@ -156,7 +155,7 @@ pub(crate) fn line_reply(
     fault: Option<FsckId>,
     text: &[u8],
 ) -> Result<Vec<u8>, AllocError>
-    ensures { IfOk result (λ reply. reply.items ≡ told fault text.now) }
+    ensures { IfOk result (λ reply. reply.items ≡ Spec.told fault text.now) }
 {
     let mut reply = Vec::new(alloc);
     push_verdict(&mut reply, fault, text)?;
@@ -165,7 +164,7 @@ pub(crate) fn line_reply(
 
 /// Appends a verdict and the line that it is on.
 fn push_verdict(reply: &mut Vec<u8>, fault: Option<FsckId>, text: &[u8]) -> Result<(), AllocError>
-    ensures { OnOk result (reply.new.items ≡ reply.old.items ++ told fault text.now) }
+    ensures { OnOk result (reply.new.items ≡ reply.old.items ++ Spec.told fault text.now) }
 {
     reply.extend_from_slice(verdict_name(fault))?;
     reply.extend_from_slice(b": ")?;

@@ -1,11 +1,11 @@
 //! The line before an object's contents: its id, its kind and its size.
 ghost use Rattle.std.specs.Prelude.{◌≡◌, ◌≤◌, length};
 ghost use Rattle.std.specs.List.{before_first, after_first, find, list_all, position_or_len};
-ghost use Rattle.gix_date.specs.Text.Characters.{is_space};
 ghost use Rattle.std.specs.Char.{is_ascii_digit};
 ghost use Rattle.std.specs.Str.Parse.{digits_value};
-ghost use Rattle.gix_signature.specs.Ident.Times.{held_number};
-ghost use Rattle.git_ident_tool.specs.Objects.{kind_start, kinds, kind_of, begins, is_number, read_header, size_of};
+ghost use Rattle.git_ident_tool.specs as Spec;
+ghost use Rattle.gix_date.specs as GixDate;
+ghost use Rattle.gix_signature.specs as GixSignature;
 
 use crate::error::HeaderFault;
 use gix_signature::number;
@@ -31,9 +31,9 @@ pub struct Header {
 const KINDS: [Kind; 4] = [Kind::Commit, Kind::Tag, Kind::Tree, Kind::Blob];
 
 /// Reads a header, without its newline.
-#[tactic(auto, unfolding(crate::specs::Objects::read_header))]
+#[tactic(auto, unfolding(crate::specs::read_header))]
 pub(crate) fn read_header(header: &[u8]) -> Result<Header, HeaderFault>
-    ensures { result ≡ read_header header.now }
+    ensures { result ≡ Spec.read_header header.now }
 {
     if header.ends_with(b" missing") || header.ends_with(b" ambiguous") {
         return Err(HeaderFault::NoObject);
@@ -50,14 +50,14 @@ pub(crate) fn read_header(header: &[u8]) -> Result<Header, HeaderFault>
 
 /// The id that a header begins with.
 pub(crate) fn id_of(header: &[u8]) -> &[u8]
-    ensures { result.now ≡ before_first is_space header.now }
+    ensures { result.now ≡ before_first GixDate.is_space header.now }
 {
     &header[..space_place(header)]
 }
 
 /// How many bytes stand before the first space.
 fn space_place(text: &[u8]) -> usize
-    ensures value { result ≡ position_or_len is_space text.now }
+    ensures value { result ≡ position_or_len GixDate.is_space text.now }
     ensures within { result ≤ length text.now }
 {
     text.iter().take_while(|b| **b != b' ').count()
@@ -65,7 +65,7 @@ fn space_place(text: &[u8]) -> usize
 
 /// What stands after the first space, or nothing.
 fn after_space(text: &[u8]) -> &[u8]
-    ensures { result.now ≡ after_first is_space text.now }
+    ensures { result.now ≡ after_first GixDate.is_space text.now }
 {
     match &text[space_place(text)..] {
         [] => &[],
@@ -76,7 +76,7 @@ fn after_space(text: &[u8]) -> &[u8]
 impl Kind {
     /// How a header names it, with the space after it.
     fn start(self) -> &'static [u8]
-        ensures { result.now ≡ kind_start self }
+        ensures { result.now ≡ Spec.kind_start self }
     {
         match self {
             Kind::Commit => b"commit ",
@@ -88,21 +88,21 @@ impl Kind {
 }
 
 fn kinds() -> &'static [Kind]
-    ensures { result.now ≡ kinds }
+    ensures { result.now ≡ Spec.kinds }
 {
     &KINDS
 }
 
 /// The kind whose name stands at the front of a text.
 fn kind_of(text: &[u8]) -> Option<Kind>
-    ensures { result ≡ kind_of text.now }
+    ensures { result ≡ Spec.kind_of text.now }
 {
     kind_in(text, kinds())
 }
 
 /// The first of these kinds whose name does.
 fn kind_in(text: &[u8], kinds: &[Kind]) -> Option<Kind>
-    ensures { result ≡ find (λ kind. begins text.now (kind_start kind)) kinds.now }
+    ensures { result ≡ find (λ kind. Spec.begins text.now (Spec.kind_start kind)) kinds.now }
 {
     kinds
         .iter()
@@ -112,7 +112,7 @@ fn kind_in(text: &[u8], kinds: &[Kind]) -> Option<Kind>
 
 /// The size that digits write, if 64 bits hold it.
 fn size_of(text: &[u8]) -> Option<usize>
-    ensures { result ≡ size_of text.now }
+    ensures { result ≡ Spec.size_of text.now }
 {
     if is_number(text) {
         number_of(text)
@@ -123,7 +123,7 @@ fn size_of(text: &[u8]) -> Option<usize>
 
 /// Whether a text is digits alone, at least one.
 fn is_number(text: &[u8]) -> bool
-    ensures { result ≡ is_number text.now }
+    ensures { result ≡ Spec.is_number text.now }
 {
     0 < text.len() && are_digits(text)
 }
@@ -137,7 +137,7 @@ fn are_digits(text: &[u8]) -> bool
 
 /// The number that digits write, if 64 bits hold it.
 fn number_of(digits: &[u8]) -> Option<usize>
-    ensures { result ≡ held_number (digits_value 10 digits.now) }
+    ensures { result ≡ GixSignature.held_number (digits_value 10 digits.now) }
 {
     match number(digits) {
         Some(n) => Some(n as usize),

@@ -1,6 +1,6 @@
 -- A date in which no offset is written has an instant.
 use Rattle.std.proofs.Common.{arith}
-use Rattle.std.proofs.Common.{◌≡◌, ℕ, ℤ, Bool, true, false, cond, List, refl, Option, Some, None}
+use Rattle.std.proofs.Common.{◌≡◌, ◌∙◌, ap, sym, subst, ℕ, ℤ, Bool, true, false, cond, List, refl, Option, Some, None}
 use Rattle.std.specs.Option.{option_or, option_map}
 use Rattle.std.specs.Prelude.{◌&&◌, IfSome}
 use Rattle.gix_date.specs.Careful.Dates.{unzoned_day, unzoned_git_time, unzoned_time}
@@ -49,6 +49,9 @@ pub day_has : (text : List ℕ) → HasInstant (unzoned_day text)
 unfolding unzoned_day
 day_has text = grind (arith, after, unless, in_utc, civil_has)
 
+pub day_instant : (text : List ℕ) (t : Time) → Some t ≡ unzoned_day text → is_instant t.seconds ≡ true
+day_instant text t e = subst HasInstant (sym e) (day_has text)
+
 cut_has : (date : DateFields) (cut : Cut) → HasInstant (time_of_cut date cut)
 unfolding time_of_cut
 cut_has date cut = grind (arith, after, at_offset, civil_has)
@@ -56,6 +59,9 @@ cut_has date cut = grind (arith, after, at_offset, civil_has)
 pub git_has : (text : List ℕ) → HasInstant (unzoned_git_time text)
 unfolding unzoned_git_time
 git_has text = grind (arith, after, unless, cut_has)
+
+pub git_instant : (text : List ℕ) (zoned : Bool) (t : Time) → unzoned_git_time text ≡ cond zoned None (Some t) → zoned ≡ false → is_instant t.seconds ≡ true
+git_instant text zoned t e f = subst HasInstant (e ∙ ap (λ (b : Bool). cond b None (Some t)) f) (git_has text)
 
 pub unzoned_has : (text : List ℕ) → HasInstant (unzoned_time text)
 unfolding unzoned_time

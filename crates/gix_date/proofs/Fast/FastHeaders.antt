@@ -218,6 +218,12 @@ pub plain-places : (text : List ℕ) (place : ℕ) (n : ℤ) (f : OffsetFields) 
     → IsUsualHeader text n f
 plain-places text place n f within mark e h = grind (arith, take-append-drop, drop-cons, add-one)
 
+-- the same of its bytes
+pub by_places : (text bytes zone : List ℕ) (place : ℕ) (n : ℤ) (f : OffsetFields) → bytes ≡ text → place < length bytes → get_or bytes place 0 ≡ space → int_value (take place bytes) ≡ Some n
+    → zone ≡ drop (place + 1) text → Some f ≡ offset_fields zone → IsUsualHeader text n f
+by_places text bytes zone place n f same within mark e is h =
+    subst (λ (t : List ℕ). IsUsualHeader t n f) same (plain-places bytes place n f within mark e (rw same (ap offset_fields (sym is) ∙ sym h)))
+
 -- the two words of such a text
 pub plain-words : (text : List ℕ) (n : ℤ) (f : OffsetFields) (h : IsUsualHeader text n f) → space_words text ≡ h.front ∷ h.zone ∷ []
 plain-words text n f h = grind (arith, int-number, offset-number, two-words)

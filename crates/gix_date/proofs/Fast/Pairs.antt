@@ -8,7 +8,7 @@ use Rattle.std.proofs.lemmas.Simd.{length-chunk, map-map, mask_l-mod, none_from_
 use Rattle.std.specs.Char.{is_ascii_digit, digit_value}
 use Rattle.std.specs.Str.{all_ascii_digits}
 use Rattle.std.specs.Str.Parse.{digits_value}
-use Rattle.gix_date.specs.Text.Numbers.{ArePairs, IsPairAt, two_digit_value}
+use Rattle.gix_date.specs.Text.Numbers.{AreDigitPairs, IsPairAt, two_digit_value}
 use Rattle.gix_date.proofs.Text.ShortDigits.{digit_is}
 use lib.Lanes.{chunk, digits_l, mask_l, number_l, top, zip2}
 
@@ -88,7 +88,7 @@ pair_of_digits n h bytes k room l within first second =
     many (suc h) x = ap suc (many h (x / 65536))
 
 -- the first four pairs of bytes of which none is no digit
-pub four_at : (bytes : List ℕ) → 8 ≤ length bytes → ((k : ℕ) → Fits w8 (get_or bytes k 0)) → other_bits 8 bytes ≡ 0 → ArePairs 4 bytes (numbers_in 8 4 bytes)
+pub four_at : (bytes : List ℕ) → 8 ≤ length bytes → ((k : ℕ) → Fits w8 (get_or bytes k 0)) → other_bits 8 bytes ≡ 0 → AreDigitPairs 4 bytes (numbers_in 8 4 bytes)
 four_at bytes room fits e k l =
     let none : mask_l (map is_other (chunk 0 8 bytes)) ≡ 0 = sym (other-bits 8 bytes room (omega arith)) ∙ e in
     let each = λ (i : ℕ) (within : i < 8). digit (get_or bytes i 0) (fits i).fits (none_from_empty_mask is_other bytes 0 8 0 (omega (arith, room)) none i (omega arith) (omega (arith, within))) in
@@ -119,7 +119,7 @@ pub ten-of : (a b c d e f g h i j p q r s t : ℕ) → IsPairOf a b p → IsPair
 ten-of a b c d e f g h i j p q r s t u v w x y = grind (arith)
 
 -- the same of a list of ten
-pub ten-from : (ds ps : List ℕ) (t : ℕ) → length ds ≡ 10 → ArePairs 4 ds ps → two_digit_value (get_or ds 8 0) (get_or ds 9 0) ≡ Some t
+pub ten-from : (ds ps : List ℕ) (t : ℕ) → length ds ≡ 10 → AreDigitPairs 4 ds ps → two_digit_value (get_or ds 8 0) (get_or ds 9 0) ≡ Some t
     → AreTen ds (five_pairs (get_or ps 0 0) (get_or ps 1 0) (get_or ps 2 0) (get_or ps 3 0) t)
 ten-from (a ∷ b ∷ c ∷ d ∷ e ∷ f ∷ g ∷ h ∷ i ∷ j ∷ []) ps t ten are last =
     ten-of a b c d e f g h i j (get_or ps 0 0) (get_or ps 1 0) (get_or ps 2 0) (get_or ps 3 0) t

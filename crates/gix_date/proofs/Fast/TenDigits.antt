@@ -1,6 +1,7 @@
 -- Headers of ten digits, one space, a sign and four digits.
-use Rattle.std.proofs.Common.{◌≡◌, ◌≢◌, ◌⊎◌, inl, inr, ◌∙◌, ℕ, ◌+◌, ◌*◌, ◌<◌, ◌≤◌, ◌^◌, Bool, true, false, List, [], ◌∷◌, ◌++◌, map, length, get_or, replicate, refl, sym, ap, arith, pos, Some, None, Fits, w8}
+use Rattle.std.proofs.Common.{ℤ, subst, w64, to_z, ◌≡◌, ◌≢◌, ◌⊎◌, inl, inr, ◌∙◌, ℕ, ◌+◌, ◌*◌, ◌<◌, ◌≤◌, ◌^◌, Bool, true, false, List, [], ◌∷◌, ◌++◌, map, length, get_or, replicate, refl, sym, ap, arith, pos, Some, None, Fits, w8}
 use Rattle.std.proofs.lemmas.Bool.{cases_lt}
+use Rattle.std.proofs.lemmas.Int.{ints}
 use Rattle.std.proofs.lemmas.List.{length-map, get_or-map, get_or-take, get_or-drop}
 use Rattle.std.proofs.lemmas.Simd.{length-chunk, get_or-replicate}
 use Rattle.std.specs.Char.{is_ascii_digit}
@@ -37,6 +38,7 @@ digit-at bytes i sixteen fits e within =
 
 -- the number of the pair k, if that is not the space and the sign
 pub pair_but_sixth : (bytes : List ℕ) → length bytes ≡ 16 → ((k : ℕ) → Fits w8 (get_or bytes k 0)) → other_bits 16 bytes ≡ 3072 → ArePairsButSixth bytes (numbers_in 16 8 bytes)
+unfolding ArePairsButSixth
 pair_but_sixth bytes sixteen fits e k l n =
     pair_of_digits 16 8 bytes k (omega (arith, sixteen)) l (omega (arith, l))
     (digit-at bytes (2 * k) sixteen fits e (places (2 * k) (omega arith) (omega arith))) (digit-at bytes (2 * k + 1) sixteen fits e (places (2 * k + 1) (omega arith) (omega arith)))
@@ -51,6 +53,7 @@ unfolding offset_fields read_two_digits last_pair
 offset-of-pairs mark k l m n hours minutes sign is h e = rw (sign-mark mark sign (k ∷ l ∷ m ∷ n ∷ []) is, h, e) refl
 
 told : (text ps : List ℕ) → ArePairsButSixth text ps → (k : ℕ) → k < 8 → k ≢ 5 → IsPairOf (get_or text (2 * k) 0) (get_or text (2 * k + 1) 0) (get_or ps k 0)
+unfolding ArePairsButSixth
 told text ps are k l n = pair-of (get_or text (2 * k) 0) (get_or text (2 * k + 1) 0) (get_or ps k 0) (are k l n)
 
 -- a number's pairs, in a list
@@ -62,6 +65,7 @@ pub record IsTenDigitHeader (text ps : List ℕ) (sign : Sign) : Type 0 where
   pub usual : IsUsualHeader text (pos (seconds_of ps)) (record { sign = sign; hours = get_or ps 6 0; minutes = get_or ps 7 0; seconds = None })
 
 pub ten-digit-header : (text ps : List ℕ) (sign : Sign) → length text ≡ 16 → ArePairsButSixth text ps → get_or text 10 0 ≡ space → IsSign (get_or text 11 0) sign → IsTenDigitHeader text ps sign
+unfolding ArePairsButSixth
 ten-digit-header (a ∷ b ∷ c ∷ d ∷ e ∷ f ∷ g ∷ h ∷ i ∷ j ∷ blank ∷ mark ∷ k ∷ l ∷ m ∷ n ∷ []) ps sign sixteen are is marked =
     let text = a ∷ b ∷ c ∷ d ∷ e ∷ f ∷ g ∷ h ∷ i ∷ j ∷ blank ∷ mark ∷ k ∷ l ∷ m ∷ n ∷ [] in
     let front = a ∷ b ∷ c ∷ d ∷ e ∷ f ∷ g ∷ h ∷ i ∷ j ∷ [] in
@@ -80,3 +84,17 @@ ten-digit-header (a ∷ b ∷ c ∷ d ∷ e ∷ f ∷ g ∷ h ∷ i ∷ j ∷ bl
       };
     }
 ten-digit-header text ps sign sixteen are is marked = absurd (omega (arith, sixteen))
+
+-- the same with the number as the code has it
+pub ten_header : (text ps : List ℕ) (sign : Sign) (m : ℕ) → length text ≡ 16 → ArePairsButSixth text ps → get_or text 10 0 ≡ space → IsSign (get_or text 11 0) sign → m ≡ seconds_of ps
+    → IsUsualHeader text (to_z w64 m) (record { sign = sign; hours = get_or ps 6 0; minutes = get_or ps 7 0; seconds = None })
+ten_header text ps sign m sixteen are is marked e =
+    let h = ten-digit-header text ps sign sixteen are is marked in
+    let same : pos (seconds_of ps) ≡ to_z w64 m = omega (arith, ints, h.small, e) in
+    subst (λ (z : ℤ). IsUsualHeader text z (record { sign = sign; hours = get_or ps 6 0; minutes = get_or ps 7 0; seconds = None })) same h.usual
+
+pub hours_small : (text ps : List ℕ) → ArePairsButSixth text ps → get_or ps 6 0 < 100
+hours_small text ps are = let h = told text ps are 6 (omega arith) (omega arith) in h.small
+
+pub minutes_small : (text ps : List ℕ) → ArePairsButSixth text ps → get_or ps 7 0 < 100
+minutes_small text ps are = let h = told text ps are 7 (omega arith) (omega arith) in h.small

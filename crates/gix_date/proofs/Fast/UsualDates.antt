@@ -1,13 +1,12 @@
 -- Dates of fixed length are read by the family of their form, which is the first that holds them.
-use Rattle.std.proofs.Common.{◌≡◌, ◌∙◌, ◌+◌, ◌-◌, ◌*◌, ◌≤◌, ◌%◌, ◌^◌, ℕ, ℤ, true, cond, List, [], ◌∷◌, length, map, get_or, refl, ap, ap₂, sym, arith, Some, None, inl, inr, ◌⊎◌, unsigned_abs, codes, w8, ltb}
+use Rattle.std.proofs.Common.{◌≡◌, ◌∙◌, ◌+◌, ◌-◌, ◌*◌, ◌≤◌, ◌%◌, ◌^◌, ℕ, ℤ, true, cond, List, [], ◌∷◌, length, map, get_or, ap, ap₂, sym, arith, Some, None, inl, inr, ◌⊎◌, unsigned_abs, codes, w8, ltb, eqb, eqb-true, take, drop, zero, suc, length-take-le, length-drop, take_all}
 use Rattle.std.proofs.lemmas.Bool.Decides.{nat_tests}
 use Rattle.std.proofs.lemmas.Simd.{mask_l-mod, tops_compared}
 use Rattle.std.specs.Prelude.{nat_le}
 use lib.Lanes.{mask_l, top, zip2}
-use Rattle.gix_date.specs.Families.Usual.{AreAtMost, AreWithin, LooksLikeDate, LooksLikeClock, IsUsualOffset}
-use Rattle.gix_date.specs.Fields.Civil.{DateFits, ClockFits}
-use Rattle.gix_date.specs.Fields.DateOffsets.{compact_offset, strict_offset, jiff_offset, last_colon_pair, rfc2822_zone, rfc2822_offset}
-use Rattle.gix_date.specs.Fields.FieldTexts.{IsDigit, IsField, IsYear, IsPlainDate, IsClock}
+use Rattle.gix_date.specs.Families.Usual.{AreAtMost, AreWithin, IsUsualOffset, SaysField, SaysYear, SaysDate, SaysClock}
+use Rattle.gix_date.specs.Fields.DateOffsets.{compact_offset, strict_offset, jiff_offset, last_colon_pair}
+use Rattle.gix_date.specs.Fields.FieldTexts.{IsDigit, IsField, IsYear}
 use Rattle.gix_date.specs.Fields.Offsets.{offset_fields}
 use Rattle.gix_date.specs.Text.Characters.{colon, minus}
 use Rattle.gix_date.specs.Text.Front.{skip_char}
@@ -20,6 +19,7 @@ use Rattle.gix_date.proofs.Printing.ReadBack.{no-leap}
 
 -- Lanes that are compared at once: where no bit is set, none of the first is below the second.
 none-below : (ys xs : List ℕ) → mask_l (zip2 ltb xs ys) ≡ 0 → AreAtMost ys xs
+unfolding AreAtMost
 none-below (y ∷ ys) (x ∷ xs) e = (grind (arith, nat_tests, e), none-below ys xs (omega (arith, e)))
 none-below ys xs e = tt
 
@@ -36,34 +36,63 @@ lanes-at-most xs ys small e =
     let within : length (zip2 ltb xs ys) ≤ 64 = elim small [ inl a ↦ omega (arith, a, short) | inr b ↦ omega (arith, b, short) ] in
     none-below ys xs (sym (ap (λ ms. mask_l ms % 2 ^ 64) (tops_compared w8 ltb xs ys) ∙ mask_l-mod (zip2 ltb xs ys) 64 within) ∙ e)
 
+-- a block of bytes of which no bit says that one is above the other
+pub block_at_most : (low high : List ℕ) (n : ℕ) → n ≤ length low → n ≤ 64 → eqb (mask_l (map (top 7) (zip2 below (take n high) (take n low))) % 2 ^ 64) 0 ≡ true
+    → AreAtMost (take n low) (take n high)
+block_at_most low high n long small none = lanes-at-most (take n high) (take n low) (inr (omega (arith, small, length-take-le n low long))) (eqb-true _ _ none)
+
+-- two blocks that cover a text are all of it
+cover : (n j : ℕ) (xs ys : List ℕ) → j ≤ n → AreAtMost (take n xs) (take n ys) → AreAtMost (drop j xs) (drop j ys) → AreAtMost xs ys
+unfolding AreAtMost
+cover n zero xs ys h a b = b
+cover (suc n) (suc j) (x ∷ xs) (y ∷ ys) h a b = (a.0, cover n j xs ys (omega (arith, h)) a.1 b)
+cover zero (suc j) xs ys h a b = absurd (omega (arith, h))
+cover (suc n) (suc j) xs ys h a b = tt
+
+-- the end of a list, from a place on
+abbrev from : ℕ → List ℕ → List ℕ
+from j xs = take (length xs - j) (drop j xs)
+
+both-blocks : (xs ys : List ℕ) (j : ℕ) → length xs ≡ length ys → j + 16 ≡ length ys → j ≤ 16
+    → AreAtMost (take 16 xs) (take 16 ys) → AreAtMost (take 16 (from j xs)) (take 16 (from j ys)) → AreAtMost xs ys
+both-blocks xs ys j same n small first last =
+    let long : length (drop j ys) ≡ 16 = omega (arith, n, length-drop j ys) in
+    let also : length (drop j xs) ≡ 16 = omega (arith, n, same, length-drop j xs) in
+    let e = take_all (length xs - j) (drop j xs) (omega (arith, n, same, also)) in
+    let f = take_all (length ys - j) (drop j ys) (omega (arith, n, long)) in
+    let ends = rw (e, f, take_all 16 (drop j xs) (omega (arith, also)), take_all 16 (drop j ys) (omega (arith, long))) at last in
+    cover 16 j xs ys small first ends
+
+pub all_within : (low high text : List ℕ) → 16 ≤ length text → length text ≤ 32 → length low ≡ length text → length high ≡ length text
+    → AreAtMost (take 16 low) (take 16 text) → AreAtMost (take 16 text) (take 16 high)
+    → AreAtMost (take 16 (from (length text - 16) low)) (take 16 (from (length text - 16) text))
+    → AreAtMost (take 16 (from (length text - 16) text)) (take 16 (from (length text - 16) high)) → AreWithin low high text
+unfolding AreWithin
+all_within low high text long short l h a b c d =
+    (both-blocks low text (length text - 16) l (omega arith) (omega arith) a c, both-blocks text high (length text - 16) (sym h) (omega (arith, h)) (omega arith) b d)
+
 pub exact : (c n : ℕ) → n ≤ c → c ≤ n → c ≡ n
 exact c n l u = omega (arith, l, u)
 
 digit : (c most : ℕ) → most ≤ 57 → 48 ≤ c → c ≤ most → IsDigit c
 digit c most small l u = grind (arith, nat_tests, small, l, u)
 
--- two bytes from a place on are a field if they are digits, and four are a year
-abbrev pub TwoAt : List ℕ → ℕ → ℕ → Type 0
-TwoAt t i n = IsDigit (get_or t i 0) → IsDigit (get_or t (i + 1) 0) → IsField (get_or t i 0 ∷ get_or t (i + 1) 0 ∷ []) n
-
-abbrev pub FourAt : List ℕ → ℕ → Type 0
-FourAt t n =
-    IsDigit (get_or t 0 0) → IsDigit (get_or t 1 0) → IsDigit (get_or t 2 0) → IsDigit (get_or t 3 0)
-    → IsYear (get_or t 0 0 ∷ get_or t 1 0 ∷ get_or t 2 0 ∷ get_or t 3 0 ∷ []) n
-
 -- two digits and four within their bounds
-pub two-of : (a b n tens : ℕ) → tens ≤ 57 → TwoAt (a ∷ b ∷ []) 0 n → AreWithin (48 ∷ 48 ∷ []) (tens ∷ 57 ∷ []) (a ∷ b ∷ [])
+two-of : (a b n tens : ℕ) → tens ≤ 57 → SaysField a b n → AreWithin (48 ∷ 48 ∷ []) (tens ∷ 57 ∷ []) (a ∷ b ∷ [])
     → IsField (a ∷ b ∷ []) n × (n ≤ 10 * (tens - 48) + 9)
+unfolding SaysField AreAtMost AreWithin
 two-of a b n tens small read ((l, (k, _)), (u, (v, _))) = grind (arith, digit)
 
-pub year-of : (a b c d n : ℕ) → FourAt (a ∷ b ∷ c ∷ d ∷ []) n → AreWithin (codes "0000") (codes "9999") (a ∷ b ∷ c ∷ d ∷ [])
+year-of : (a b c d n : ℕ) → SaysYear a b c d n → AreWithin (codes "0000") (codes "9999") (a ∷ b ∷ c ∷ d ∷ [])
     → IsYear (a ∷ b ∷ c ∷ d ∷ []) n × (n ≤ 9999)
+unfolding SaysYear AreAtMost AreWithin
 year-of a b c d n read ((k0, (k1, (k2, (k3, _)))), (u0, (u1, (u2, (u3, _))))) = grind (arith, digit)
 
 -- ten bytes that look like a date, and eight that look like a clock
-pub date-of : (t : List ℕ) (y m d : ℕ) → length t ≡ 10 → FourAt t y → TwoAt t 5 m → TwoAt t 8 d
-    → LooksLikeDate t → IsPlainDate t (record { year = y; month = m; day = d }) × DateFits (record { year = y; month = m; day = d })
-date-of (a ∷ b ∷ c ∷ e ∷ x ∷ f ∷ g ∷ z ∷ i ∷ j ∷ []) y m d n year month day
+pub date_of : (t : List ℕ) (y m d : ℕ) → length t ≡ 10 → SaysYear (get_or t 0 0) (get_or t 1 0) (get_or t 2 0) (get_or t 3 0) y
+    → SaysField (get_or t 5 0) (get_or t 6 0) m → SaysField (get_or t 8 0) (get_or t 9 0) d → SaysDate t (record { year = y; month = m; day = d })
+unfolding SaysDate AreAtMost AreWithin
+date_of (a ∷ b ∷ c ∷ e ∷ x ∷ f ∷ g ∷ z ∷ i ∷ j ∷ []) y m d n year month day
     ((k0, (k1, (k2, (k3, (k4, (k5, (k6, (k7, (k8, (k9, _)))))))))), (u0, (u1, (u2, (u3, (u4, (u5, (u6, (u7, (u8, (u9, _))))))))))) =
     let of_year = year-of a b c e y year ((k0, (k1, (k2, (k3, tt)))), (u0, (u1, (u2, (u3, tt))))) in
     let of_month = two-of f g m 49 (omega arith) month ((k5, (k6, tt)), (u5, (u6, tt))) in
@@ -79,11 +108,12 @@ date-of (a ∷ b ∷ c ∷ e ∷ x ∷ f ∷ g ∷ z ∷ i ∷ j ∷ []) y m d n
       },
       record { year = of_year.1; month = omega (arith, of_month.1); day = omega (arith, of_day.1) },
     )
-date-of t y m d n year month day h = absurd (omega (arith, n))
+date_of t y m d n year month day h = absurd (omega (arith, n))
 
-pub clock-of : (t : List ℕ) (h m s : ℕ) → length t ≡ 8 → TwoAt t 0 h → TwoAt t 3 m → TwoAt t 6 s
-    → LooksLikeClock t → IsClock t (record { hour = h; minute = m; second = s }) × ClockFits (record { hour = h; minute = m; second = s })
-clock-of (a ∷ b ∷ x ∷ c ∷ d ∷ y ∷ e ∷ f ∷ []) h m s n hour minute second ((k0, (k1, (k2, (k3, (k4, (k5, (k6, (k7, _)))))))), (u0, (u1, (u2, (u3, (u4, (u5, (u6, (u7, _))))))))) =
+pub clock_of : (t : List ℕ) (h m s : ℕ) → length t ≡ 8 → SaysField (get_or t 0 0) (get_or t 1 0) h → SaysField (get_or t 3 0) (get_or t 4 0) m
+    → SaysField (get_or t 6 0) (get_or t 7 0) s → SaysClock t (record { hour = h; minute = m; second = s })
+unfolding SaysClock AreAtMost AreWithin
+clock_of (a ∷ b ∷ x ∷ c ∷ d ∷ y ∷ e ∷ f ∷ []) h m s n hour minute second ((k0, (k1, (k2, (k3, (k4, (k5, (k6, (k7, _)))))))), (u0, (u1, (u2, (u3, (u4, (u5, (u6, (u7, _))))))))) =
     let of_hour = two-of a b h 50 (omega arith) hour ((k0, (k1, tt)), (u0, (u1, tt))) in
     let of_minute = two-of c d m 53 (omega arith) minute ((k3, (k4, tt)), (u3, (u4, tt))) in
     let of_second = two-of e f s 53 (omega arith) second ((k6, (k7, tt)), (u6, (u7, tt))) in (
@@ -100,7 +130,7 @@ clock-of (a ∷ b ∷ x ∷ c ∷ d ∷ y ∷ e ∷ f ∷ []) h m s n hour minut
       },
       record { hour = omega (arith, of_hour.1); minute = omega (arith, of_minute.1); second = omega (arith, of_second.1) },
     )
-clock-of t h m s n hour minute second k = absurd (omega (arith, n))
+clock_of t h m s n hour minute second k = absurd (omega (arith, n))
 
 -- the offset is that of its fields
 module _ {gap text : List ℕ} {o : ℤ} (h : IsUsualOffset gap text o) where
@@ -124,10 +154,6 @@ compact-read text o h = ap offset_fields h.whole ∙ offset-of-pairs h.mark h.h0
 pub compact-usual : (text : List ℕ) (o : ℤ) → IsUsualOffset [] text o → compact_offset text ≡ Some o
 unfolding compact_offset
 compact-usual text o h = rw (compact-read text o h) (allowed h)
-
-pub mail-usual : (text : List ℕ) (o : ℤ) → IsUsualOffset [] text o → rfc2822_zone text ≡ Some o
-unfolding rfc2822_zone rfc2822_offset
-mail-usual text o h = rw (compact-read text o h, allowed h) refl
 
 pub strict-usual : (text : List ℕ) (o : ℤ) → IsUsualOffset (colon ∷ []) text o → strict_offset text ≡ Some o
 unfolding strict_offset read_two_digits last_colon_pair skip_char

@@ -24,9 +24,9 @@ abbrev pub strict : DateFields → List ℕ → Option FamilyAnswer
 strict = answer_after (LetterT ∷ Clock ∷ ColonOffset ∷ []) time_answer
 
 -- without a day there is none
-pub no-day : (text : List ℕ) → read_plain_date text ≡ None → None ≡ dashed_answer text
+pub no_plain_day : (text : List ℕ) → read_plain_date text ≡ None → None ≡ dashed_answer text
 unfolding short_answer iso8601_answer iso8601_strict_answer
-no-day text e = rw e refl
+no_plain_day text e = rw e refl
 
 -- a day that has an instant answers it
 pub day_with_instant : (date : DateFields) (s : ℤ) → Some s ≡ civil_instant date midnight (pos 0) → Some (Absolute (utc_time s)) ≡ alone date []
@@ -43,25 +43,24 @@ or-none None = refl
 or-none (Some a) = refl
 
 -- where nothing stands after it, the day is alone
-pub day-alone : (text : List ℕ) (date : DateFields) (rest : List ℕ) (x : Option FamilyAnswer)
-    → read_plain_date text ≡ Some (date, rest) → (length rest == 0) ≡ true → x ≡ alone date [] → x ≡ dashed_answer text
+pub day_alone : (text : List ℕ) (date : DateFields) (rest : List ℕ) → read_plain_date text ≡ Some (date, rest) → (length rest == 0) ≡ true → dashed_answer text ≡ alone date []
 unfolding skip_spaces skip_char
-day-alone text date [] x e empty is = is ∙ sym (after-day text date [] e ∙ or-none (alone date []))
-day-alone text date (c ∷ cs) x e empty is = grind (arith, nat_tests)
+day_alone text date [] e empty = after-day text date [] e ∙ or-none (alone date [])
+day_alone text date (c ∷ cs) e empty = grind (arith, nat_tests)
 
 -- where more stands after it, that is ISO 8601
-pub day-then-clock : (text : List ℕ) (date : DateFields) (rest : List ℕ) (a : FamilyAnswer)
+pub day_then_clock : (text : List ℕ) (date : DateFields) (rest : List ℕ) (a : FamilyAnswer)
     → read_plain_date text ≡ Some (date, rest) → (length rest == 0) ≡ false → Some a ≡ iso date rest → Some a ≡ dashed_answer text
-day-then-clock text date [] a e more is = absurd cc
-day-then-clock text date (c ∷ cs) a e more is =
+day_then_clock text date [] a e more is = absurd cc
+day_then_clock text date (c ∷ cs) a e more is =
     ap (λ x. option_or x (strict date (c ∷ cs))) is ∙ sym (after-day text date (c ∷ cs) e)
 
 -- or else its strict form
-pub day-then-t : (text : List ℕ) (date : DateFields) (rest : List ℕ) (x : Option FamilyAnswer)
+pub day_then_t : (text : List ℕ) (date : DateFields) (rest : List ℕ) (x : Option FamilyAnswer)
     → read_plain_date text ≡ Some (date, rest) → (length rest == 0) ≡ false → None ≡ iso date rest → x ≡ strict date rest
     → x ≡ dashed_answer text
-day-then-t text date [] x e more none is = absurd cc
-day-then-t text date (c ∷ cs) x e more none is =
+day_then_t text date [] x e more none is = absurd cc
+day_then_t text date (c ∷ cs) x e more none is =
     is ∙ ap (λ y. option_or y (strict date (c ∷ cs))) none ∙ sym (after-day text date (c ∷ cs) e)
 
 -- The dates with names: the day of the week, the month and the day are read once for both.
@@ -86,19 +85,28 @@ abbrev pub clock-first : DateFields → List ℕ → Option FamilyAnswer
 clock-first = answer_after (Clock ∷ Spaces ∷ Year ∷ Spaces ∷ Offset ∷ []) time_answer
 
 -- without them there is none
-pub no-named-day : (text : List ℕ) → read_named_day text ≡ None → None ≡ named_day_answer text
+pub no_named_day : (text : List ℕ) → read_named_day text ≡ None → None ≡ named_day_answer text
 unfolding gitoxide_answer default_answer
-no-named-day text e =
+no_named_day text e =
     rw (named-day (Year ∷ Spaces ∷ Clock ∷ Spaces ∷ Offset ∷ []) text, named-day (Clock ∷ Spaces ∷ Year ∷ Spaces ∷ Offset ∷ []) text, e) refl
 
 -- with them the year comes first, or else the clock
-pub after-named-day : (text : List ℕ) (date : DateFields) (rest : List ℕ) → read_named_day text ≡ Some (date, rest)
+pub after_named_day : (text : List ℕ) (date : DateFields) (rest : List ℕ) → read_named_day text ≡ Some (date, rest)
     → named_day_answer text ≡ option_or (year-first date rest) (clock-first date rest)
 unfolding gitoxide_answer default_answer
-after-named-day text date rest e =
+after_named_day text date rest e =
     rw (named-day (Year ∷ Spaces ∷ Clock ∷ Spaces ∷ Offset ∷ []) text, named-day (Clock ∷ Spaces ∷ Year ∷ Spaces ∷ Offset ∷ []) text, e) refl
 
-pub day-then-hour : (text : List ℕ) (date : DateFields) (rest : List ℕ) (x : Option FamilyAnswer)
+pub day_then_year : (text : List ℕ) (date : DateFields) (rest : List ℕ) (a : FamilyAnswer)
+    → read_named_day text ≡ Some (date, rest) → Some a ≡ year-first date rest → Some a ≡ named_day_answer text
+day_then_year text date rest a e is =
+    ap (λ x. option_or x (clock-first date rest)) is ∙ sym (after_named_day text date rest e)
+
+pub day_then_hour : (text : List ℕ) (date : DateFields) (rest : List ℕ) (x : Option FamilyAnswer)
     → read_named_day text ≡ Some (date, rest) → None ≡ year-first date rest → x ≡ clock-first date rest → x ≡ named_day_answer text
-day-then-hour text date rest x e none is =
-    is ∙ ap (λ y. option_or y (clock-first date rest)) none ∙ sym (after-named-day text date rest e)
+day_then_hour text date rest x e none is =
+    is ∙ ap (λ y. option_or y (clock-first date rest)) none ∙ sym (after_named_day text date rest e)
+
+pub ruleset plain_days = (no_plain_day, day_alone, day_then_clock, day_then_t)
+
+pub ruleset named_days = (no_named_day, day_then_year, day_then_hour)

@@ -30,7 +30,7 @@ month-at : (text : List ℕ) (m : ℕ) → 3 ≤ length text → AreThreeLetters
 unfolding read_month
 month-at text m n letters e = rw (name-at text n letters, e) refl
 
-pub no-month-at : (text : List ℕ) → month_named (three text) ≡ None → read_month text ≡ None
+no-month-at : (text : List ℕ) → month_named (three text) ≡ None → read_month text ≡ None
 unfolding read_month
 no-month-at text e = no-name-at text _ (λ rest. rw e refl)
 
@@ -44,16 +44,19 @@ unfolding skip_weekday
 no-day-at text e = no-name-at text _ (λ rest. rw e refl)
 
 -- shorter texts begin with neither
-pub short-no-month : (text : List ℕ) → length text < 3 → read_month text ≡ None
+pub short_no_month : (text : List ℕ) → length text < 3 → read_month text ≡ None
 unfolding read_month read_name
-short-no-month (a ∷ b ∷ c ∷ rest) n = absurd (omega arith)
-short-no-month text n = refl
+short_no_month (a ∷ b ∷ c ∷ rest) n = absurd (omega arith)
+short_no_month text n = refl
 
 -- the same of the bytes of a text
 
-pub month-of : (bytes text : List ℕ) (m : ℕ) → bytes ≡ text → 3 ≤ length bytes → AreThreeLetters (three bytes) → Some m ≡ month_named (three bytes)
+pub month_of_letters : (bytes text : List ℕ) (m : ℕ) → bytes ≡ text → 3 ≤ length bytes → AreThreeLetters (three bytes) → Some m ≡ month_named (three bytes)
     → read_month text ≡ Some (m, drop 3 text)
-month-of bytes text m e n letters is = subst (λ t. read_month t ≡ Some (m, drop 3 t)) e (month-at bytes m n letters (sym is))
+month_of_letters bytes text m e n letters is = subst (λ t. read_month t ≡ Some (m, drop 3 t)) e (month-at bytes m n letters (sym is))
+
+pub no_month_of : (bytes text : List ℕ) → bytes ≡ text → None ≡ month_named (three bytes) → read_month text ≡ None
+no_month_of bytes text e is = subst (λ t. read_month t ≡ None) e (no-month-at bytes (sym is))
 
 pub day_of_letters : (bytes text : List ℕ) → bytes ≡ text → 3 ≤ length bytes → AreThreeLetters (three bytes) → is_weekday (three bytes) ≡ true
     → skip_weekday text ≡ Some (drop 3 text)

@@ -61,14 +61,16 @@ letters-at a b c names k h e =
     let at = position-Some (is_name (a ∷ b ∷ c ∷ [])) names k [] e in
     like-letters a b c (get_or names k []) at.1 (all-at (list_all is_ascii_alphabetic) names k h at.0)
 
-pub month-has-letters : (a b c : ℕ) (found : Option ℕ) → found ≡ month_told (a ∷ b ∷ c ∷ []) → IfSome found (λ month. AreThreeLetters (a ∷ b ∷ c ∷ []))
+pub month_has_letters : (a b c : ℕ) → is_some (month_told (a ∷ b ∷ c ∷ [])) ≡ true → AreThreeLetters (a ∷ b ∷ c ∷ [])
 unfolding month_named
-month-has-letters a b c found e =
-    subst (λ (o : Option ℕ). IfSome o (λ month. AreThreeLetters (a ∷ b ∷ c ∷ []))) (sym (e ∙ month-is a b c)) (by (position (is_name (a ∷ b ∷ c ∷ [])) month_names) refl)
+month_has_letters a b c e = by (position (is_name (a ∷ b ∷ c ∷ [])) month_names) refl (ap is_some (sym (month-is a b c)) ∙ e)
   where
-    by : (o : Option ℕ) → position (is_name (a ∷ b ∷ c ∷ [])) month_names ≡ o → IfSome (option_map (λ place. place + 1) o) (λ month. AreThreeLetters (a ∷ b ∷ c ∷ []))
-    by None e = tt
-    by (Some k) e = letters-at a b c month_names k refl e
+    by : (o : Option ℕ) → position (is_name (a ∷ b ∷ c ∷ [])) month_names ≡ o → is_some (option_map (λ place. place + 1) o) ≡ true → AreThreeLetters (a ∷ b ∷ c ∷ [])
+    by None e h = absurd cc
+    by (Some k) e h = letters-at a b c month_names k refl e
+
+-- what the attribute of a function names, for which a dash is no letter
+pub ruleset months_told = (month-is, month_has_letters)
 
 pub day_has_letters : (a b c : ℕ) → is_weekday (a ∷ b ∷ c ∷ []) ≡ true → AreThreeLetters (a ∷ b ∷ c ∷ [])
 unfolding is_weekday

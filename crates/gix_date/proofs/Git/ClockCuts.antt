@@ -10,9 +10,9 @@ use Rattle.std.specs.Option.{option_or}
 use Rattle.std.specs.Prelude.{◌==◌, ◌&&◌, nat_lt, slice_index, option_map, unwrap_or}
 use Rattle.gix_date.specs.Text.Characters.{space, letter_z}
 use Rattle.gix_date.specs.Git.ClockCut.{Cut, last_place, is_sign, has_offset_at, trimmed_after, last_space, last_sign, cut_at_z, cut_at_space, cut_at_space_place, cut_at_sign, clock_cut}
-use Rattle.gix_date.specs.Git.Cuts.{EndsInZ, CutsAtSpace, CutsAtSign, IsCut, at_z, at_space, at_sign, whole}
+use Rattle.gix_date.specs.Git.Cuts.{EndsInZ, CutsAtSpace, CutsAtSign, IsCut, at_z, at_space, at_offset_sign, whole}
 use Rattle.gix_date.specs.Text.Front.{◌>>=◌}
-use Rattle.gix_date.proofs.Text.LastPlaces.{is_last, last_is}
+use Rattle.gix_date.proofs.Text.LastPlaces.{is_last, last_is, not_at}
 
 pub space_none : (u : List ℕ) → None ≡ last_space u → cut_at_space u ≡ None
 unfolding cut_at_space
@@ -44,6 +44,14 @@ sign_none u e = ap (λ r. option_map (λ place. (take place u, drop place u)) r)
 pub sign_found : (u t o : List ℕ) (k : ℕ) → Some k ≡ last_sign u → t ≡ take k u → o ≡ drop k u → cut_at_sign u ≡ Some (t, o)
 unfolding cut_at_sign
 sign_found u t o k e f g = grind (arith)
+
+pub sign_at : (u : List ℕ) (k : ℕ) → Some k ≡ last_sign u → cut_at_sign u ≡ Some (take k u, drop k u)
+sign_at u k e = sign_found u (take k u) (drop k u) k e refl refl
+
+pub no_sign_at : (bytes text : List ℕ) (n : ℕ) (r : Bool) → 0 < n → bytes ≡ text → r ≡ has_offset_at bytes (n - 1) → r ≡ false
+    → last_place (has_offset_at text) (n - 1) ≡ last_place (has_offset_at text) n
+no_sign_at bytes text n r more same e f =
+    not_at (has_offset_at text) n (n - 1) (omega (arith, more)) (ap (λ u. has_offset_at u (n - 1)) (sym same) ∙ sym e ∙ f)
 
 pub z_found : (u t : List ℕ) (r : Bool) → r ≡ true → r ≡ (slice_index u (length u - 1) == letter_z) → t ≡ take (length u - 1) u → cut_at_z u ≡ Some (t, letter_z ∷ [])
 unfolding cut_at_z
@@ -90,7 +98,7 @@ IsCutPair u y = IsCut u y.0 y.1
 by_sign : (u : List ℕ) (r : Option ℕ) → last_sign u ≡ r → ¬ (EndsInZ u) → ¬ ((j : ℕ) × CutsAtSpace u j) → IsCutPair u (unwrap_or (option_map (λ place. (take place u, drop place u)) r) (u, []))
 unfolding last_sign IsCutPair
 by_sign u None e z s = whole z s (no_sign u e)
-by_sign u (Some k) e z s = at_sign k z s (is_last (has_offset_at u) (length u) k e)
+by_sign u (Some k) e z s = at_offset_sign k z s (is_last (has_offset_at u) (length u) k e)
 
 space_means : (u : List ℕ) (k : ℕ) (a b : Bool) → nat_lt 5 k ≡ a → is_sign (slice_index (trimmed_after u k) 0) ≡ b → last_space u ≡ Some k → (y : List ℕ × List ℕ) → cond (a && b) (Some (take k u, trimmed_after u k)) None ≡ Some y → CutsAtSpace u k × (y ≡ (take k u, trimmed_after u k))
 unfolding last_space
@@ -150,5 +158,5 @@ first_cut u a b c e f g = rw (e, f, g) refl
 pub means_cut : (u clock offset : List ℕ) → IsCut u clock offset → clock_cut u ≡ (clock, offset)
 means_cut u clock offset (at_z front e) = first_cut u (Some (front, letter_z ∷ [])) (cut_at_space u) (cut_at_sign u) (cut_z u front e) refl refl
 means_cut u clock offset (at_space k z c) = first_cut u None (Some (take k u, trimmed_after u k)) (cut_at_sign u) (none_z u z) (cut_space u k c) refl
-means_cut u clock offset (at_sign k z s c) = first_cut u None None (Some (take k u, drop k u)) (none_z u z) (none_space u s) (cut_sign u k c)
+means_cut u clock offset (at_offset_sign k z s c) = first_cut u None None (Some (take k u, drop k u)) (none_z u z) (none_space u s) (cut_sign u k c)
 means_cut u clock offset (whole z s n) = first_cut u None None None (none_z u z) (none_space u s) (none_sign u n)

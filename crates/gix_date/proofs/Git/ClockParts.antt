@@ -1,5 +1,5 @@
 -- The parts of a clock.
-use Rattle.std.proofs.Common.{◌≡◌, ℕ, ◌<◌, ◌≤◌, ◌^◌, Bool, true, false, cond, List, [], ◌∷◌, length, take, refl, sym, ap, ◌∙◌, Some, None, Result, Ok, Err, arith}
+use Rattle.std.proofs.Common.{◌≡◌, ℕ, ◌<◌, ◌≤◌, ◌^◌, Bool, true, false, cond, List, [], ◌∷◌, length, take, refl, sym, ap, ◌∙◌, Option, Some, None, Result, Ok, Err, arith}
 use Rattle.std.proofs.lemmas.Bool.{not-true as unpassed}
 use Rattle.std.proofs.Math.Seq.{take-length}
 use Rattle.std.proofs.lemmas.Bool.Decides.{nat_tests}
@@ -8,7 +8,7 @@ use Rattle.std.proofs.lemmas.List.Sums.{prefix_len_passes, prefix_len-le-length}
 use Rattle.std.proofs.lemmas.Str.Parse.{parse_digits}
 use Rattle.std.specs.Char.{is_ascii_digit}
 use Rattle.std.specs.List.{list_all, slice_split, before_first, after_first, position_or_len}
-use Rattle.std.specs.Prelude.{nat_lt, ◌&&◌}
+use Rattle.std.specs.Prelude.{nat_lt, unwrap_or, ◌&&◌}
 use Rattle.std.specs.Result.{result_ok}
 use Rattle.std.specs.Str.{all_ascii_digits}
 use Rattle.std.specs.Str.Parse.{ParsesUnsigned, digits_value}
@@ -60,6 +60,15 @@ field_is most n t r d h e up =
     let read = read_some n t r d h e in
     below most n up ∙ ap (at_most most) read.0 ∙ field_yes most t d read.1
 
+-- the same, where the most is said otherwise
+pub over_most : {E : Type 0} (most m n : ℕ) (t : List ℕ) (r : Result ℕ E) → list_all is_ascii_digit t ≡ true → ParsesUnsigned 32 10 t r → Some n ≡ result_ok r → m ≡ most → m < n
+    → None ≡ digits_at_most most t
+over_most most m n t r d h e is up = field_above most n t r d h e (omega (arith, is, up))
+
+pub up_to_most : {E : Type 0} (most m n : ℕ) (t : List ℕ) (r : Result ℕ E) → list_all is_ascii_digit t ≡ true → ParsesUnsigned 32 10 t r → Some n ≡ result_ok r → m ≡ most → n ≤ m
+    → Some n ≡ digits_at_most most t
+up_to_most most m n t r d h e is up = field_is most n t r d h e (omega (arith, is, up))
+
 -- where no element passes, all stand before the first
 pub before_none : (p : ℕ → Bool) (t : List ℕ) → position_or_len p t ≡ length t → before_first p t ≡ t
 before_none p t e = ap (λ n. take n t) e ∙ take-length t
@@ -92,3 +101,7 @@ by_three t h m r s rest e f g =
     ∙ ap (λ ps. clock_of_parts (h ∷ m ∷ ps)) (sym first.1)
     ∙ ap (λ ps. clock_of_parts (h ∷ ps)) (sym f)
     ∙ ap clock_of_parts (sym e)
+
+-- an offset without seconds
+pub no_seconds : (seconds : Option ℕ) → seconds ≡ None → unwrap_or seconds 0 ≡ 0
+no_seconds seconds e = ap (λ (o : Option ℕ). unwrap_or o 0) e

@@ -21,7 +21,8 @@ use Rattle.std.specs.Char.{is_ascii_digit}
 use Rattle.std.specs.Str.{bytes_eq}
 use Rattle.std.specs.Str.Parse.{without_leading_sign, signed_digits_value, digits_value}
 use Rattle.gix_date.specs.Fields.FieldTexts.{IsSign, IsDigit}
-use Rattle.gix_date.specs.Header.Canonical.{is_canonical_header, is_canonical_offset, is_decimal_text, has_whole_minutes}
+use Rattle.gix_date.specs.declared.parsing.headers.HeaderKind.TheVariants.{Canonical, Lenient, NoHeader}
+use Rattle.gix_date.specs.Header.Canonical.{header_kind, kind_of, is_canonical_header, is_canonical_offset, is_decimal_text, has_whole_minutes}
 use Rattle.gix_date.specs.Text.Characters.{space, plus, minus, is_space, has_colon}
 use Rattle.gix_date.specs.Header.Laws.{ComesBack}
 use Rattle.gix_date.specs.Header.Reading.{header_time, time_of_words, header_seconds}
@@ -342,3 +343,26 @@ canonical_written text t e = grind (arith, bytes_eq-Decides, false-unless, comes
 pub no_time_not_canonical : (text : List ℕ) → header_time text ≡ None → false ≡ is_canonical_header text
 no_time_not_canonical text e = sym (false-unless _ (λ c.
     let clash : None ≡ Some _ = sym e ∙ (canonical_back text (canonical_taken text c)).is_read in absurd cc))
+
+-- what the kind of a header tells
+canonical-is : (b : Bool) (time : Option Time) → Canonical ≡ kind_of b time → true ≡ b
+canonical-is true time e = refl
+canonical-is false (Some t) e = absurd cc
+canonical-is false None e = absurd cc
+
+lenient-is-not : (b : Bool) (time : Option Time) (t : Time) → Lenient t ≡ kind_of b time → false ≡ b
+lenient-is-not true time t e = absurd cc
+lenient-is-not false time t e = refl
+
+none-is-not : (b : Bool) (time : Option Time) → NoHeader ≡ kind_of b time → false ≡ b
+none-is-not true time e = absurd cc
+none-is-not false time e = refl
+
+pub kind_canonical : (text : List ℕ) → Canonical ≡ header_kind text → true ≡ is_canonical_header text
+kind_canonical text e = canonical-is (is_canonical_header text) (header_time text) e
+
+pub kind_lenient : (text : List ℕ) (t : Time) → Lenient t ≡ header_kind text → false ≡ is_canonical_header text
+kind_lenient text t e = lenient-is-not (is_canonical_header text) (header_time text) t e
+
+pub kind_none : (text : List ℕ) → NoHeader ≡ header_kind text → false ≡ is_canonical_header text
+kind_none text e = none-is-not (is_canonical_header text) (header_time text) e

@@ -17,6 +17,10 @@ pub by_name : (rows : List (Bor (List ℕ) × Format)) (name : List ℕ) → map
 by_name rows name e =
     sym (seen_by printed_by (map name_row rows) name) ∙ ap (λ (all : List (List ℕ × Printed)). value_named all name) (seen-rows rows ∙ e)
 
+pub named_is : (rows : List (Bor (List ℕ) × Format)) (name : List ℕ) (found : Option Format) → map format_row rows ≡ named_formats
+    → found ≡ value_named (map name_row rows) name → option_map printed_by found ≡ format_named name
+named_is rows name found e f = ap (option_map printed_by) f ∙ by_name rows name e
+
 pub by_number : (rows : List (Bor (List ℕ) × Format)) (number : ℕ) (row : Option (Bor (List ℕ) × Format)) → map format_row rows ≡ named_formats
     → slice_get rows number ≡ row → option_map (λ (row : Bor (List ℕ) × Format). printed_by row.1) row ≡ format_numbered number
 by_number rows number row e place =

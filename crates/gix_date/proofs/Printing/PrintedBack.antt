@@ -13,7 +13,7 @@ use Rattle.gix_date.specs.Text.Numbers.{two_digits}
 use Rattle.gix_date.specs.Families.Patterns.{rfc2822_layout, iso8601_layout, iso8601_strict_layout, gitoxide_layout, default_layout, time_answer, rfc2822_answer, iso8601_answer, iso8601_strict_answer, gitoxide_answer, default_answer, IsMeaning, Accepts}
 use Rattle.gix_date.specs.Printing.Formats.{PrintsPattern}
 use Rattle.gix_date.specs.Printing.PrintedTimes.{PrintsText}
-use Rattle.gix_date.specs.Families.Raw.{OffsetRule}
+use Rattle.gix_date.specs.Families.Raw.{OffsetRule, is_minute_offset, is_quarter_offset}
 use Rattle.gix_date.specs.Printing.ReadingBack.{RoundTrips, RoundTripsBy, RoundTripsByEach, RoundTripsAs, RoundTripsByPattern}
 use Rattle.gix_date.specs.declared.error.Error.{Error}
 use Rattle.gix_date.specs.declared.time.Time.{Time}
@@ -73,9 +73,15 @@ by-pattern : (rule : OffsetRule) (pattern own : List ℕ) (text : LocalTime → 
     → RoundTripsBy rule pattern text t → own ≡ pattern → PrintsPattern t own r → RoundTripsAs rule t r
 by-pattern rule pattern own text t r plain back e h = grind (arith, text-back, back)
 
+pub quarters_by_each : (t : Time) → RoundTrips t → RoundTripsByEach is_quarter_offset t
+quarters_by_each = round_trips_by_each is_quarter_offset
+
+pub minutes_by_each : (t : Time) → RoundTrips t → RoundTripsByEach is_minute_offset t
+minutes_by_each = round_trips_by_each is_minute_offset
+
 -- by whichever of their patterns
-pub round-trips-by-pattern : (rule : OffsetRule) (t : Time) → RoundTrips t → RoundTripsByPattern rule t
-round-trips-by-pattern rule t plain own r clock h =
+pub round_trips_by_pattern : (rule : OffsetRule) (t : Time) → RoundTrips t → RoundTripsByPattern rule t
+round_trips_by_pattern rule t plain own r clock h =
     let all = round_trips_by_each rule t plain in
     elim clock [
       | inl e ↦ by-pattern rule iso8601_pattern own iso8601_text t r plain all.iso8601 e h

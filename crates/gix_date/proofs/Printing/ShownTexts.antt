@@ -1,5 +1,5 @@
 -- What the strict printer shows by a named pattern is its text: not only nothing else, but that.
-use Rattle.std.proofs.Common.{◌≡◌, ◌∙◌, ◌+◌, ◌/◌, ◌++◌, ℤ, unsigned_abs, Bool, true, length, Bor, option_map, arith, get_or, lit<, if◌then◌else◌, ◌<◌, ◌≤◌, ℕ, List, [], ◌∷◌, decimal, Option, Some, None, Result, Ok, Err, IfOk, IfErr, String, Global, refl, sym, ap, subst, inl, inr, false, string_bytes, suc}
+use Rattle.std.proofs.Common.{rules, ◌≡◌, ◌∙◌, ◌+◌, ◌/◌, ◌++◌, ℤ, unsigned_abs, Bool, true, length, Bor, option_map, arith, get_or, lit<, if◌then◌else◌, ◌<◌, ◌≤◌, ℕ, List, [], ◌∷◌, decimal, Option, Some, None, Result, Ok, Err, IfOk, IfErr, String, Global, refl, sym, ap, subst, inl, inr, false, string_bytes, suc}
 use Rattle.std.proofs.lemmas.Fmt.{decimal_digit}
 use Rattle.jiff.specs.Types.{PlainZoned}
 use Rattle.jiff_core.specs.declared.error.Error.TheVariants.{Missing}
@@ -17,7 +17,7 @@ use Rattle.jiff_tz.specs.declared.timezone.TimeZone.TheVariants.{Fixed, Posix, T
 use Rattle.std.proofs.Math.Seq.{take-length}
 use Rattle.std.proofs.lemmas.Str.{IsAscii-append, IsUtf8-from_ascii}
 use Rattle.std.proofs.lemmas.Str.Ascii.{IsAscii-nil, IsAscii-cons}
-use Rattle.std.specs.Str.{IsUtf8, IsAscii}
+use Rattle.std.specs.Str.{IsUtf8, IsAscii, bytes_eq}
 use Rattle.jiff_core.proofs.SignedLemmas.{signed_arith, one_part}
 use Rattle.jiff_core.specs.Calendar.{weekday_number}
 use Rattle.jiff_core.specs.Date.{weekday_of, epoch_day}
@@ -27,7 +27,9 @@ use Rattle.jiff_core.specs.declared.civil.weekday.Weekday.TheVariants.{Monday, T
 use Rattle.jiff_strtime.specs.declared.tm.BrokenDownTime.{BrokenDownTime}
 use Rattle.jiff.specs.Words.{plain_zoned}
 use Rattle.gix_date.specs.Fields.Layout.{LocalTime}
-use Rattle.gix_date.specs.Printing.NamedTexts.{IsShownByAll}
+use Rattle.gix_date.specs.Printing.NamedTexts.{IsShownByAll, short_pattern, short_text, iso8601_pattern, iso8601_text, iso8601_strict_pattern, iso8601_strict_text}
+use Rattle.gix_date.proofs.Printing.Appended.{begun}
+use Rattle.gix_date.proofs.Printing.NamedTexts.{formats_printed}
 use Rattle.gix_date.specs.Printing.LocalClocks.{clock_of, HasFourDigitFields}
 use Rattle.gix_date.specs.Printing.Formats.{IsShown, IsPatternText, PrintsPattern, HasParts}
 use Rattle.gix_date.specs.Fields.Zoned.{IsConvertible}
@@ -162,6 +164,21 @@ pub named-shown : (pattern named : List ℕ) (text : LocalTime → List ℕ) (lo
     → AlwaysShowsText named text → pattern ≡ named → bytes ≡ text local → IsShownByAll pattern local bytes
 named-shown pattern named text local bytes always p b z four_digits shows = grind (arith, shows-always)
 
+-- each of the patterns without names
+bytes_eq-true : (pattern : List ℕ) → bytes_eq pattern short_pattern ≡ true → pattern ≡ short_pattern
+bytes_eq-true pattern p = search rules
+
+pub short_shown : (pattern : List ℕ) (local : LocalTime) (old bytes : List ℕ) → bytes_eq pattern short_pattern ≡ true → old ≡ [] → bytes ≡ old ++ short_text local → IsShownByAll pattern local bytes
+short_shown pattern local old bytes p e b = named-shown pattern short_pattern short_text local bytes formats_printed.short.always (bytes_eq-true pattern p) (begun old bytes (short_text local) e b)
+
+pub iso8601_shown : (pattern : List ℕ) (local : LocalTime) (old bytes : List ℕ) → pattern ≡ iso8601_pattern → old ≡ [] → bytes ≡ old ++ iso8601_text local → IsShownByAll pattern local bytes
+iso8601_shown pattern local old bytes p e b = named-shown pattern iso8601_pattern iso8601_text local bytes formats_printed.iso8601.always p (begun old bytes (iso8601_text local) e b)
+
+pub strict_shown : (pattern : List ℕ) (local : LocalTime) (old bytes : List ℕ) → pattern ≡ iso8601_strict_pattern → old ≡ [] → bytes ≡ old ++ iso8601_strict_text local → IsShownByAll pattern local bytes
+strict_shown pattern local old bytes p e b = named-shown pattern iso8601_strict_pattern iso8601_strict_text local bytes formats_printed.iso8601_strict.always p (begun old bytes (iso8601_strict_text local) e b)
+
+pub ruleset numbers_shown = (short_shown, iso8601_shown, strict_shown)
+
 -- what a copy of this text comes to is what the pattern prints
 pub copy-prints : (pattern : List ℕ) (t : Time) (text : List ℕ) (r : Result (String Global) Error) → IsConvertible t
     → IsPatternText t pattern text → IfOk r (λ copy. string_bytes copy ≡ text) → IfErr r (λ e. e ≡ errors.Memory)
@@ -170,13 +187,13 @@ copy-prints pattern t text (Ok copy) converts (z, m, shown) ok err = (z, m, subs
 copy-prints pattern t text (Err e) converts h ok err = inr (inl (err, converts))
 
 -- what shows by such a clock is the text of its time
-pub named-text : (pattern : List ℕ) (t : Time) (local : LocalTime) (bytes : List ℕ) → IsShownByAll pattern local bytes
-    → local ≡ clock_of t → IsConvertible t → HasFourDigitFields t → IsPatternText t pattern bytes
-named-text pattern t local bytes shown clock converts four_digits =
+pub named_text : (pattern : List ℕ) (t : Time) (bytes : List ℕ) → IsShownByAll pattern (clock_of t) bytes
+    → IsConvertible t → HasFourDigitFields t → IsPatternText t pattern bytes
+named_text pattern t bytes shown converts four_digits =
     let m = moment-of t converts in
     let shows = moment-shows t m.0 m.1 in
     let z = plain_zoned m.0 in
-    (m.0, m.1, shown z (four-digits-from z t shows four_digits) (clock_is_shown z t shows ∙ sym clock))
+    (m.0, m.1, shown z (four-digits-from z t shows four_digits) (clock_is_shown z t shows))
 
 -- the day of the month, in one digit or two
 pub day_of_one : (day : ℕ) → day < 10 → (48 + day) ∷ [] ≡ decimal day

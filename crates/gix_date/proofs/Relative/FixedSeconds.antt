@@ -1,17 +1,18 @@
 -- In a zone of one offset pairs of seconds subtract exactly.
 use Rattle.std.proofs.Common.{rules}
-use Rattle.std.proofs.Common.{◌≡◌, ◌∙◌, ◌↔◌, ℤ, pos, ◌-ℤ◌, List, [], ◌∷◌, sym, subst, arith}
+use Rattle.std.proofs.Common.{◌≡◌, ◌∙◌, ◌↔◌, ℤ, pos, ◌-ℤ◌, unsigned_abs, List, [], ◌∷◌, ap, sym, subst, arith}
 use Rattle.std.specs.List.{All}
 use Rattle.std.proofs.lemmas.List.Elements.{All-nil, All-head, All-tail, All-cons}
+use Rattle.std.proofs.lemmas.List.Sorted.{All-permutation, IsPermutation-sym, sum_by-IsPermutation}
 use Rattle.jiff.specs.Types.{TimeZone}
 use Rattle.jiff.specs.Words.{plain_zoned, zoned_nanos, nanos_of_seconds, IsTimestampNanos}
 use Rattle.jiff.specs.declared.zoned.Zoned.{Zoned}
 use Rattle.jiff_core.proofs.SignedLemmas.{signed_arith}
 use Rattle.jiff_tz.specs.Zone.{IsFixed}
 use Rattle.gix_date.specs.Relative.Dates.{MinusSeconds, Reaches}
-use Rattle.gix_date.specs.Relative.FixedZones.{product, total, ProductFits, less_seconds, NamesSum, NamesAlike}
+use Rattle.gix_date.specs.Relative.FixedZones.{product, total, ProductFits, less_seconds, IsNonnegativePair, NamesSum, NamesAlike, IgnoresOrder}
 use Rattle.gix_date.specs.Relative.Steps.{zone_of, SecondsStep, Chain}
-use Rattle.gix_date.proofs.Relative.FixedZones.{IsLoss, IsBefore, one-loss, second_steps, total-loss, products-fit}
+use Rattle.gix_date.proofs.Relative.FixedZones.{IsLoss, IsBefore, all-loss, one-loss, same-seconds, second_steps, total-loss, total-sum_by, products-fit}
 use Rattle.gix_date.proofs.Relative.FixedSteps.{fixed-keeps}
 use Rattle.gix_date.proofs.Relative.Steps.{resolves-once}
 
@@ -54,19 +55,36 @@ fixed-sum tz f pairs i loss range j =
     )
 
 pub names-sum : (z : Zoned) (pairs : List (ℤ × ℤ)) → IsFixed (zone_of z) → All IsLoss pairs → NamesSum pairs z
+unfolding NamesSum
 names-sum z pairs f loss = fixed-sum (zone_of z) f pairs (zoned_nanos z) loss (plain_zoned z).timestamp.in_range
 
 -- an instant that is reached lies within `jiff`'s range, so an i64 holds what was taken off the moment
 pub seconds-law : (z : Zoned) (pairs : List (ℤ × ℤ)) → IsFixed (zone_of z) → All IsLoss pairs
     → (j : ℤ) → Reaches (less_seconds pairs) (zone_of z) (zoned_nanos z) j ↔ ((j ≡ zoned_nanos z -ℤ nanos_of_seconds (total pairs)) × IsTimestampNanos j)
+unfolding NamesSum
 seconds-law z pairs f loss j =
     let range = (plain_zoned z).timestamp.in_range in
     let law = names-sum z pairs f loss j in
     (λ h. let r = law.0 h in (r.0, r.2), λ h. law.1 (h.0, products-fit pairs loss (omega (arith, signed_arith, range, h.0, h.1, total-loss pairs loss)), h.1))
 
--- `yesterday` is one day
-pub yesterday-alike : (z : Zoned) → IsFixed (zone_of z)
+-- what the laws promise: that `yesterday` is one day, and that pairs add up, in any order
+pub yesterday_alike : (z : Zoned) → IsFixed (zone_of z)
     → NamesAlike z (MinusSeconds (pos 86_400)) (less_seconds ((pos 1, pos 86_400) ∷ []))
-yesterday-alike z f j =
+unfolding NamesAlike
+yesterday_alike z f j =
     let law = seconds-law z ((pos 1, pos 86_400) ∷ []) f (one-loss (pos 1, pos 86_400) (omega (arith, signed_arith))) j in
     (λ h. law.1 h, λ h. law.0 h)
+
+pub seconds_add : (z : Zoned) (pairs : List (ℤ × ℤ)) → IsFixed (zone_of z) → All IsNonnegativePair pairs → NamesSum pairs z
+seconds_add z pairs f h = names-sum z pairs f (all-loss pairs h)
+
+pub seconds_permute : (z : Zoned) (pairs : List (ℤ × ℤ)) → IsFixed (zone_of z) → All IsNonnegativePair pairs → IgnoresOrder pairs z
+unfolding NamesSum NamesAlike IgnoresOrder
+seconds_permute z pairs f nonnegative other h =
+    let loss = all-loss pairs nonnegative in
+    let other_loss = All-permutation IsLoss pairs other h loss in
+    let sums = ap pos (sum_by-IsPermutation (λ p. unsigned_abs (product p)) pairs other h) in
+    let same : total other ≡ total pairs = total-sum_by other other_loss ∙ sums ∙ sym (total-sum_by pairs loss) in
+    same-seconds (zone_of z) pairs other (zoned_nanos z) same
+    (All-permutation ProductFits pairs other h, All-permutation ProductFits other pairs (IsPermutation-sym pairs other h))
+    (names-sum z pairs f loss) (names-sum z other f other_loss)

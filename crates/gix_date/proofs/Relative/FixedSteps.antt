@@ -5,16 +5,18 @@ use Rattle.std.proofs.Common.{◌≡◌, ◌∙◌, ◌↔◌, ◌≤◌, ℤ, p
 use Rattle.std.specs.List.{All}
 use Rattle.jiff.proofs.ZoneFacts.{offset_at-fixed_zone, picked_instant-fixed_zone}
 use Rattle.jiff.specs.Types.{TimeZone, DateTime, Offset}
-use Rattle.jiff.specs.Words.{fixed_zone, offset_at, picked_instant, civil_nanos, nanos_of_seconds, IsTimestampNanos}
+use Rattle.jiff.specs.Words.{plain_zoned, zoned_nanos, fixed_zone, offset_at, picked_instant, civil_nanos, nanos_of_seconds, IsTimestampNanos}
+use Rattle.jiff.specs.declared.zoned.Zoned.{Zoned}
 use Rattle.jiff_tz.specs.Zone.{IsFixed, utc_offset, ambiguous_at}
 use Rattle.jiff_tz.specs.declared.timezone.TimeZone.TheVariants.{Fixed, Posix, Tzif}
 use Rattle.gix_date.specs.Relative.Dates.{RelativeDate, MinusSeconds, MinusPairs, Reaches}
-use Rattle.gix_date.specs.Relative.FixedZones.{total, less_months}
-use Rattle.gix_date.specs.Relative.Steps.{IsLocal, IsPicked, Resolves, PairStep, Chain, ChooseAlike}
+use Rattle.gix_date.specs.Relative.FixedZones.{total, less_months, IsNonnegativePair, NamesAlike}
+use Rattle.gix_date.specs.Relative.Steps.{zone_of, IsLocal, IsPicked, Resolves, PairStep, Chain, ChooseAlike}
 use Rattle.gix_date.specs.Relative.Roles.{pairs}
 use Rattle.gix_date.specs.declared.parsing.relative.words.TimeUnit.{TimeUnit}
 use Rattle.gix_date.specs.declared.parsing.relative.words.TimeUnit.TheVariants.{Seconds, Months}
-use Rattle.gix_date.proofs.Relative.FixedZones.{IsLoss, months-fixed, fixed-resolves-exists}
+use Rattle.gix_date.proofs.Relative.FixedZones.{IsLoss, all-loss, months-fixed, fixed-resolves-exists}
+use Rattle.gix_date.proofs.Relative.Steps.{shows-local}
 
 picks : (tz : TimeZone) (o : Offset) → IsFixed tz → ((n : ℤ) → o.seconds ≡ offset_at tz n) → (dt : DateTime) → picked_instant tz dt ≡ civil_nanos dt -ℤ nanos_of_seconds o.seconds
 unfolding offset_at ambiguous_at
@@ -66,7 +68,7 @@ fixed-offset tz f = (utc_offset, λ n. refl)
 pub fixed-zone : (o : Offset) → IsFixed (fixed_zone o)
 fixed-zone o = grind (arith)
 
-pub months-in : (tz : TimeZone) → IsFixed tz → (i : ℤ) (dt : DateTime) (pairs : List (ℤ × ℤ)) → IsLocal tz i dt → dt.date.day ≤ 28 → IsTimestampNanos i
+months-in : (tz : TimeZone) → IsFixed tz → (i : ℤ) (dt : DateTime) (pairs : List (ℤ × ℤ)) → IsLocal tz i dt → dt.date.day ≤ 28 → IsTimestampNanos i
     → All IsLoss pairs → FitsSigned w64 (total pairs) → (j : ℤ) → Reaches (less_months pairs) tz i j ↔ Reaches (less_months ((total pairs, pos 1) ∷ [])) tz i j
 months-in tz f i dt pairs local day range loss fits j =
     let o = fixed-offset tz f in
@@ -78,6 +80,14 @@ months-in tz f i dt pairs local day range loss fits j =
       λ h. reaches-alike zone tz (turned tz zone alike) one i j (law.0 (reaches-alike tz zone alike many i j h)),
       λ h. reaches-alike zone tz (turned tz zone alike) many i j (law.1 (reaches-alike tz zone alike one i j h)),
     )
+
+-- what the law promises of pairs of months
+pub months_alike : (z : Zoned) (pairs : List (ℤ × ℤ)) → IsFixed (zone_of z) → All IsNonnegativePair pairs → FitsSigned w64 (total pairs)
+    → (plain_zoned z).datetime.date.day ≤ 28 → NamesAlike z (less_months pairs) (less_months ((total pairs, pos 1) ∷ []))
+unfolding NamesAlike
+months_alike z pairs f nonnegative fits day =
+    let plain = plain_zoned z in
+    months-in (zone_of z) f (zoned_nanos z) plain.datetime pairs (shows-local plain) day plain.timestamp.in_range (all-loss pairs nonnegative) fits
 
 -- a zone of one offset resolves each instant to itself
 pub fixed-keeps : (tz : TimeZone) → IsFixed tz → (i : ℤ) → IsTimestampNanos i → Resolves tz i i

@@ -7,7 +7,7 @@ use Rattle.gix_date.specs.Relative.Words.{is_ago}
 use Rattle.gix_date.proofs.Text.Places.{any_place, all_places}
 use Rattle.gix_date.specs.Relative.Roles.{is_count_word, has_unit, next_is_free, has_next, next_is_unit, has_flag, has_pair, all_units, are_pairs}
 use Rattle.gix_date.specs.Relative.Scan.{step, verdict}
-use Rattle.gix_date.specs.declared.parsing.relative.scan.Scan.{Scan}
+use Rattle.gix_date.specs.declared.parsing.relative.pairs.Scan.{Scan}
 use Rattle.gix_date.proofs.Relative.CountRuns.{free_after}
 
 abbrev pub scan : Bool → Bool → Bool → Bool → Scan

@@ -71,6 +71,9 @@ nothing _ (stops y ys e) z = absurd (some_len (is_ascii_alphanumeric y) (prefix_
 pub no_word : (bs : List ℕ) → prefix_len is_ascii_alphanumeric (drop (prefix_len is_gap bs) bs) ≡ 0 → relative_words bs ≡ []
 no_word bs z = from_skip bs ∙ nothing _ (after is_gap bs) z
 
+pub no_words : (bs es : List ℕ) (n : ℕ) → es ≡ drop (prefix_len is_gap bs) bs → n ≡ prefix_len is_ascii_alphanumeric es → n ≡ 0 → relative_words bs ≡ []
+no_words bs es n f e z = no_word bs (ap (prefix_len is_ascii_alphanumeric) (sym f) ∙ sym e ∙ z)
+
 word_front : (es : List ℕ) (n : ℕ) → n ≡ prefix_len is_ascii_alphanumeric es → 0 < n → relative_words es ≡ take n es ∷ relative_words (drop n es)
 word_front es n e long =
     ap relative_words (sym (take-append-drop n es))

@@ -1,9 +1,9 @@
 -- Texts of ASCII, and where a text may be cut: after ASCII.
-use Rattle.std.proofs.Common.{◌≡◌, ℕ, ◌+◌, ◌-◌, ◌<◌, ◌≤◌, Bool, true, cond, List, [], ◌∷◌, length, get_or, Some, None, refl, arith, ap, subst, zero, suc, IsAscii, ◌++◌, ◌∙◌}
+use Rattle.std.proofs.Common.{◌≡◌, ℕ, ◌+◌, ◌-◌, ◌<◌, ◌≤◌, Bool, true, cond, List, [], ◌∷◌, length, get_or, Some, None, refl, arith, ap, subst, zero, suc, IsAscii, ◌++◌, ◌∙◌, length-append}
 use Rattle.std.proofs.lemmas.Bool.{and_parts as both, and_from}
 use Rattle.std.proofs.lemmas.Bool.Decides.{nat_tests}
 use Rattle.std.proofs.lemmas.List.Sums.{prefix_len-le-length, prefix_len_passes}
-use Rattle.std.proofs.lemmas.Str.{IsCharBoundary-after_ascii, IsCharBoundary-start, IsUtf8-from_ascii}
+use Rattle.std.proofs.lemmas.Str.{IsCharBoundary-after_ascii, IsCharBoundary-at_seam, IsCharBoundary-start, IsUtf8-from_ascii}
 use Rattle.std.proofs.lemmas.Str.Ascii.{IsAscii-nil, IsAscii-cons}
 use Rattle.std.specs.Char.{is_ascii_digit, is_ascii_alphabetic}
 use Rattle.std.specs.List.{prefix_len, list_all}
@@ -68,3 +68,15 @@ pub cut_pair : (bytes text : List ℕ) (last m : ℕ) → bytes ≡ text → IsU
 cut_pair bytes text last m e u n value =
     let ascii = ones_ascii (get_or bytes (last - 1) 0) (get_or bytes last 0) m value in
     IsCharBoundary-after_ascii text last u (omega (arith, ap length e)) (subst (λ bs. get_or bs last 0 < 128) e ascii)
+
+-- where the rest of a text begins
+pub rest_begins : (text rest : List ℕ) → (front : List ℕ) × (text ≡ front ++ rest) → IsUtf8 rest → IsCharBoundary text (length text - length rest)
+rest_begins text rest (front, whole) utf8 =
+    let same : length front ≡ length text - length rest = omega (arith, ap length whole, length-append front rest) in
+    subst (λ (n : ℕ). IsCharBoundary text n) same (IsCharBoundary-at_seam text front rest whole utf8)
+
+-- what stands after a byte of ASCII
+pub byte_end : (bytes text : List ℕ) (place : ℕ) → bytes ≡ text → IsUtf8 text → place < length bytes → get_or bytes place 0 ≡ 32 → IsCharBoundary text (place + 1)
+byte_end bytes text place e u within byte =
+    let same : get_or text place 0 ≡ 32 = subst (λ (bs : List ℕ). get_or bs place 0 ≡ 32) e byte in
+    IsCharBoundary-after_ascii text place u (omega (arith, ap length e, within)) (omega (arith, same))

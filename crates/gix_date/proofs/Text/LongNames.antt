@@ -114,6 +114,10 @@ pub same_names : {A : Type 0} (word : List ℕ) (rows : List (Bor (List ℕ) × 
 same_names word [] = refl
 same_names word (row ∷ rows) = told-by (bytes_eq word row.0.now) row _ _ (same_names word rows)
 
+pub value_is : {A : Type 0} (word : List ℕ) (rows : List (Bor (List ℕ) × A)) (found : Option A)
+    → found ≡ option_map (λ (row : Bor (List ℕ) × A). row.1) (find (λ (row : Bor (List ℕ) × A). bytes_eq word row.0.now) rows) → found ≡ value_named (map name_row rows) word
+value_is word rows found e = e ∙ same_names word rows
+
 -- a table whose values are seen otherwise says the same of them
 pub seen_by : {A B : Type 0} (see : A → B) (rows : List (List ℕ × A)) (word : List ℕ)
     → value_named (map (λ (row : List ℕ × A). (row.0, see row.1)) rows) word ≡ option_map see (value_named rows word)

@@ -17,7 +17,7 @@ abbrev pub Part : Type 0
 Part = List ℕ → Option (List ℕ)
 
 -- a text ends in this rest
-abbrev pub IsRestOf : List ℕ → List ℕ → Type 0
+unfoldable pub IsRestOf : List ℕ → List ℕ → Type 0
 IsRestOf text rest = (front : List ℕ) × (text ≡ front ++ rest)
 
 -- What is left where the parts stop: from `rest` on, and `whole` if they take all of it.

@@ -30,20 +30,20 @@ IsWord [] = ⊥
 IsWord (b ∷ rest) = list_all is_ascii_alphanumeric (b ∷ rest) ≡ true
 
 -- a word, and what stands after it
-abbrev pub Piece : Type 0
-Piece = List ℕ × List ℕ
+abbrev pub WordPiece : Type 0
+WordPiece = List ℕ × List ℕ
 
 -- words with gaps after them: only the last may have none
-abbrev pub AreSeparated : List Piece → Type 0
+abbrev pub AreSeparated : List WordPiece → Type 0
 AreSeparated [] = Unit {0}
 AreSeparated ((word, gap) ∷ pieces) = IsWord word × IsWordGap gap × ((gap ≡ []) → pieces ≡ []) × AreSeparated pieces
 
 -- the pieces one after the other
-abbrev pub joined_pieces : List Piece → List ℕ
+abbrev pub joined_pieces : List WordPiece → List ℕ
 joined_pieces [] = []
 joined_pieces ((word, gap) ∷ pieces) = word ++ (gap ++ joined_pieces pieces)
 
-abbrev pub words_of : List Piece → List (List ℕ)
+abbrev pub words_of : List WordPiece → List (List ℕ)
 words_of pieces = map (λ piece. piece.0) pieces
 
 -- the numbers that words name
@@ -87,7 +87,7 @@ ArePairsAgo (pair ∷ pairs) words =
 -- a careful text of these pairs: separators, and then words with gaps after them
 pub record IsCarefulOf (text : List ℕ) (pairs : List (ℤ × TimeUnit)) : Type 0 where
   pub front : List ℕ
-  pub pieces : List Piece
+  pub pieces : List WordPiece
   pub whole : text ≡ front ++ joined_pieces pieces
   pub separated : AreSeparators front
   pub apart : AreSeparated pieces

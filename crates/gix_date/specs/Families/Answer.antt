@@ -2,8 +2,8 @@
 use Rattle.jiff.specs.Words.{IsOffsetSeconds}
 use Rattle.gix_date.specs.Relative.Dates.{RelativeDate, relative_date_of}
 use Rattle.gix_date.specs.declared.time.Time.{Time}
-use Rattle.gix_date.specs.declared.parsing.answer.Answer.{Answer}
-use Rattle.gix_date.specs.declared.parsing.answer.Answer.TheVariants as answer
+use Rattle.gix_date.specs.declared.parsing.Answer.{Answer}
+use Rattle.gix_date.specs.declared.parsing.Answer.TheVariants as answer
 
 -- a family's answer for a text that it holds
 pub data FamilyAnswer : Type 0 where

@@ -5,8 +5,9 @@ use Rattle.gix_date.specs.Families.Order.{first_family_by}
 use Rattle.gix_date.specs.Families.Patterns.{date_answer, max_date_offset}
 use Rattle.gix_date.specs.Families.Raw.{OffsetRule}
 use Rattle.gix_date.specs.Fields.Civil.{DateFits, ClockFits}
-use Rattle.gix_date.specs.Fields.FieldTexts.{IsSign}
+use Rattle.gix_date.specs.Fields.FieldTexts.{IsDigit, IsField, IsYear, IsPlainDate, IsClock, IsSign}
 use Rattle.gix_date.specs.Fields.Offsets.{offset_of}
+use Rattle.gix_date.specs.Text.Characters.{colon}
 use Rattle.gix_date.specs.Text.Numbers.{two_digit_value}
 use Rattle.gix_date.specs.declared.civil.ClockFields.{ClockFields}
 use Rattle.gix_date.specs.declared.civil.DateFields.{DateFields}
@@ -14,12 +15,12 @@ use Rattle.gix_date.specs.declared.parsing.offset.Sign.{Sign}
 use Rattle.gix_date.specs.declared.time.Time.{Time}
 
 -- as far as both go, no byte of the first is above that of the second
-abbrev pub AreAtMost : List ℕ → List ℕ → Type 0
+unfoldable pub AreAtMost : List ℕ → List ℕ → Type 0
 AreAtMost (x ∷ xs) (y ∷ ys) = (x ≤ y) × AreAtMost xs ys
 AreAtMost xs ys = Unit {0}
 
 -- each byte of a text is within its own bounds
-abbrev pub AreWithin : List ℕ → List ℕ → List ℕ → Type 0
+unfoldable pub AreWithin : List ℕ → List ℕ → List ℕ → Type 0
 AreWithin low high text = AreAtMost low text × AreAtMost text high
 
 -- a text looks like `2022-08-18`
@@ -51,6 +52,28 @@ pub record IsUsualOffset (gap text : List ℕ) (offset : ℤ) : Type 0 where
   pub within_hours : hours ≤ 23
   pub within_minutes : minutes ≤ 59
   pub is : offset ≡ offset_of (record { sign = sign; hours = hours; minutes = minutes; seconds = None })
+
+-- two bytes are a field of this number, if they are digits
+unfoldable pub SaysField : ℕ → ℕ → ℕ → Type 0
+SaysField tens ones n = IsDigit tens → IsDigit ones → IsField (tens ∷ ones ∷ []) n
+
+-- four bytes are this year, if they are digits
+unfoldable pub SaysYear : ℕ → ℕ → ℕ → ℕ → ℕ → Type 0
+SaysYear a b c d n = IsDigit a → IsDigit b → IsDigit c → IsDigit d → IsYear (a ∷ b ∷ c ∷ d ∷ []) n
+
+-- a text is this date, if it looks like one
+unfoldable pub SaysDate : List ℕ → DateFields → Type 0
+SaysDate text date = LooksLikeDate text → IsPlainDate text date × DateFits date
+
+-- a text is this clock, if it looks like one
+unfoldable pub SaysClock : List ℕ → ClockFields → Type 0
+SaysClock text clock = LooksLikeClock text → IsClock text clock × ClockFits clock
+
+-- a sign and four digits are this offset, also with a colon between hours and minutes, if they look like one
+unfoldable pub SaysOffset : ℕ → ℕ → ℕ → ℕ → ℕ → ℤ → Type 0
+SaysOffset mark a b c d offset =
+    LooksLikeOffset (mark ∷ a ∷ b ∷ c ∷ d ∷ [])
+    → IsUsualOffset [] (mark ∷ a ∷ b ∷ c ∷ d ∷ []) offset × IsUsualOffset (colon ∷ []) (mark ∷ a ∷ b ∷ colon ∷ c ∷ d ∷ []) offset
 
 -- the first family that holds the text answers this time, by whatever rule for raw offsets
 abbrev pub AnswersFirst : List ℕ → Time → Type 0

@@ -28,7 +28,7 @@ CutsAtSign text k = IsLastPlace (has_offset_at text) (length text) k
 pub data IsCut (text : List ℕ) : List ℕ → List ℕ → Type 0 where
   at_z : (clock : List ℕ) → text ≡ clock ++ letter_z ∷ [] → IsCut text clock (letter_z ∷ [])
   at_space : (k : ℕ) → ¬ (EndsInZ text) → CutsAtSpace text k → IsCut text (take k text) (trimmed_after text k)
-  at_sign : (k : ℕ) → ¬ (EndsInZ text) → ¬ ((j : ℕ) × CutsAtSpace text j) → CutsAtSign text k
+  at_offset_sign : (k : ℕ) → ¬ (EndsInZ text) → ¬ ((j : ℕ) × CutsAtSpace text j) → CutsAtSign text k
       → IsCut text (take k text) (drop k text)
   whole : ¬ (EndsInZ text) → ¬ ((j : ℕ) × CutsAtSpace text j) → ¬ ((j : ℕ) × CutsAtSign text j)
       → IsCut text text []

@@ -44,5 +44,5 @@ pub record IsUsualHeader (text : List ℕ) (seconds : ℤ) (fields : OffsetField
   pub are_fields : offset_fields zone ≡ Some fields
 
 -- each of eight pairs of bytes but the sixth is two digits, of this number
-abbrev pub ArePairsButSixth : List ℕ → List ℕ → Type 0
+unfoldable pub ArePairsButSixth : List ℕ → List ℕ → Type 0
 ArePairsButSixth text numbers = (k : ℕ) → k < 8 → k ≢ 5 → IsPairAt text numbers k

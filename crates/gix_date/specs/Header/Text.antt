@@ -11,7 +11,7 @@ use Rattle.gix_date.specs.declared.error.Error.{Error}
 use Rattle.gix_date.specs.declared.error.Error.TheVariants.{OffsetTooWide, Write}
 use Rattle.gix_date.specs.declared.time.Time.{Time}
 use Rattle.gix_date.specs.declared.time.TheConstants.{HUNDRED_HOURS}
-use Rattle.gix_date.specs.declared.time.write.TheConstants.{MAX_TEXT_LEN}
+use Rattle.gix_date.specs.declared.time.TheConstants.{MAX_TEXT_LEN}
 
 -- the least offset without header text, 360000 seconds
 abbrev pub hundred_hours : ℕ

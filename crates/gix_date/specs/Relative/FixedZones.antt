@@ -41,7 +41,7 @@ abbrev pub Names : RelativeDate → Zoned → ℤ → Type 0
 Names date moment instant = Reaches date (zone_of moment) (zoned_nanos moment) instant
 
 -- both dates name the same instant from the moment, or none
-abbrev pub NamesAlike : Zoned → RelativeDate → RelativeDate → Type 0
+unfoldable pub NamesAlike : Zoned → RelativeDate → RelativeDate → Type 0
 NamesAlike moment a b = (instant : ℤ) → Names a moment instant ↔ Names b moment instant
 
 -- the instant is the moment less the pairs: less their sum, and an `i64` holds each product
@@ -66,12 +66,12 @@ NamesBefore date moment seconds =
     (t : Time) → IsNamed date moment t ↔ ((t ≡ time_in (zone_of moment) instant) × IsTimestampNanos instant)
 
 -- the pairs of seconds name the moment less their sum, and nothing else
-abbrev pub NamesSum : List (ℤ × ℤ) → Zoned → Type 0
+unfoldable pub NamesSum : List (ℤ × ℤ) → Zoned → Type 0
 NamesSum pairs moment =
     (instant : ℤ) → Names (less_seconds pairs) moment instant ↔ IsSecondsBefore pairs moment instant
 
 -- pairs of seconds mean the same in any order
-abbrev pub IgnoresOrder : List (ℤ × ℤ) → Zoned → Type 0
+unfoldable pub IgnoresOrder : List (ℤ × ℤ) → Zoned → Type 0
 IgnoresOrder pairs moment =
     (other : List (ℤ × ℤ)) → IsPermutation pairs other
     → NamesAlike moment (less_seconds pairs) (less_seconds other)

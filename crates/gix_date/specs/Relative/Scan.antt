@@ -2,7 +2,7 @@
 use Rattle.std.specs.Prelude.{ℕ, Bool, true, false, ◌&&◌, ◌||◌, List, if◌then◌else◌}
 use Rattle.gix_date.specs.Relative.Words.{is_ago}
 use Rattle.gix_date.specs.Relative.Roles.{is_count_word, has_unit}
-use Rattle.gix_date.specs.declared.parsing.relative.scan.Scan.{Scan}
+use Rattle.gix_date.specs.declared.parsing.relative.pairs.Scan.{Scan}
 
 -- the scan after one more word
 abbrev pub step : Scan → List ℕ → Scan

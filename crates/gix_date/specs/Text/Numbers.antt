@@ -41,8 +41,8 @@ abbrev pub IsPairAt : List ℕ → List ℕ → ℕ → Type 0
 IsPairAt text numbers k = two_digit_value (get_or text (2 * k) 0) (get_or text (2 * k + 1) 0) ≡ Some (get_or numbers k 0)
 
 -- the first n pairs of the bytes are two digits each, of these numbers
-abbrev pub ArePairs : ℕ → List ℕ → List ℕ → Type 0
-ArePairs n text numbers = (k : ℕ) → k < n → IsPairAt text numbers k
+abbrev pub AreDigitPairs : ℕ → List ℕ → List ℕ → Type 0
+AreDigitPairs n text numbers = (k : ℕ) → k < n → IsPairAt text numbers k
 
 -- the number that two digits at the front write
 unfoldable pub read_two_digits : List ℕ → ReadFront ℕ

@@ -2,14 +2,7 @@
 ghost use Rattle.std.specs.Str.{IsAscii};
 ghost use Rattle.std.specs.Prelude.{◌≡◌, ◌+◌, ◌≤◌, ◌<◌, ◌∷◌, ◌++◌, [], decimal, length, unsigned_abs};
 ghost use Rattle.arrayvec.specs.ArrayString.{array_string_len};
-ghost use Rattle.gix_date.specs.Text.Characters.{space};
-ghost use Rattle.gix_date.specs.Text.Names.{day_name, month_name};
-ghost use Rattle.gix_date.specs.Text.Numbers.{two_digits};
-ghost use Rattle.gix_date.specs.Fields.ClockNumbers.{hours_in, minutes_in};
-ghost use Rattle.gix_date.specs.Fields.DateOffsets.{strict_offset_text};
-ghost use Rattle.gix_date.specs.Fields.FieldTexts.{four_digits, date_text, clock_text};
-ghost use Rattle.gix_date.specs.Fields.Offsets.{compact_offset_text, offset_sign};
-ghost use Rattle.gix_date.specs.Header.Text.{hundred_hours};
+ghost use Rattle.gix_date.specs as Spec;
 
 use crate::clock::Clock;
 use crate::names::{day_name, month_name};
@@ -27,7 +20,7 @@ const PAIRS: &str =
 #[inline(always)]
 fn two_digits(n: u8) -> [u8; 2]
     requires { n < 100 }
-    ensures { result ≡ two_digits n }
+    ensures { result ≡ Spec.two_digits n }
 {
     let place = 2 * usize::from(n);
     let pairs = PAIRS.as_bytes();
@@ -60,7 +53,7 @@ pub(crate) fn push_ascii<const CAP: usize>(text: &mut ArrayString<CAP>, bytes: &
 #[inline(always)]
 pub fn push_two_digits<const CAP: usize>(text: &mut ArrayString<CAP>, n: u8)
     requires { array_string_len text.old + 2 ≤ CAP }
-    ensures bytes { text.new.bytes ≡ text.old.bytes ++ two_digits n }
+    ensures bytes { text.new.bytes ≡ text.old.bytes ++ Spec.two_digits n }
     ensures len { array_string_len text.new ≡ array_string_len text.old + 2 }
 {
     if n < 100 {
@@ -76,7 +69,7 @@ pub fn push_two_digits<const CAP: usize>(text: &mut ArrayString<CAP>, n: u8)
 pub(crate) fn push_pair<const CAP: usize>(text: &mut ArrayString<CAP>, n: u8)
     requires small { n < 100 }
     requires room { array_string_len text.old + 2 ≤ CAP }
-    ensures bytes { text.new.bytes ≡ text.old.bytes ++ two_digits n }
+    ensures bytes { text.new.bytes ≡ text.old.bytes ++ Spec.two_digits n }
     ensures len { array_string_len text.new ≡ array_string_len text.old + 2 }
 {
     push_ascii(text, &two_digits(n));
@@ -86,7 +79,7 @@ pub(crate) fn push_pair<const CAP: usize>(text: &mut ArrayString<CAP>, n: u8)
 #[inline(always)]
 fn four_digits(n: u16) -> [u8; 4]
     requires { n ≤ 9999 }
-    ensures { result ≡ four_digits n }
+    ensures { result ≡ Spec.four_digits n }
 {
     let [a, b] = two_digits((n / 100) as u8);
     let [c, d] = two_digits((n % 100) as u8);
@@ -96,7 +89,7 @@ fn four_digits(n: u16) -> [u8; 4]
 /// `YYYY-MM-DD` of a clock.
 #[inline(always)]
 fn date_bytes(t: Clock) -> [u8; 10]
-    ensures { result ≡ date_text t.date }
+    ensures { result ≡ Spec.date_text t.date }
 {
     let [a, b, c, d] = four_digits(t.year());
     let [e, f] = two_digits(t.month());
@@ -106,8 +99,8 @@ fn date_bytes(t: Clock) -> [u8; 10]
 
 /// `hh:mm:ss` of a clock.
 #[inline(always)]
-fn clock_bytes(t: Clock) -> [u8; 8]
-    ensures { result ≡ clock_text t.clock }
+pub(crate) fn clock_bytes(t: Clock) -> [u8; 8]
+    ensures { result ≡ Spec.clock_text t.clock }
 {
     let [a, b] = two_digits(t.hour());
     let [c, d] = two_digits(t.minute());
@@ -119,7 +112,7 @@ fn clock_bytes(t: Clock) -> [u8; 8]
 #[inline(always)]
 pub fn push_year<const CAP: usize>(text: &mut ArrayString<CAP>, t: Clock)
     requires { array_string_len text.old + 4 ≤ CAP }
-    ensures bytes { text.new.bytes ≡ text.old.bytes ++ four_digits t.date.year }
+    ensures bytes { text.new.bytes ≡ text.old.bytes ++ Spec.four_digits t.date.year }
     ensures len { array_string_len text.new ≡ array_string_len text.old + 4 }
 {
     push_ascii(text, &four_digits(t.year()));
@@ -145,7 +138,7 @@ pub fn push_day<const CAP: usize>(text: &mut ArrayString<CAP>, t: Clock)
 #[inline(always)]
 pub fn push_weekday<const CAP: usize>(text: &mut ArrayString<CAP>, t: Clock)
     requires { array_string_len text.old + 4 ≤ CAP }
-    ensures bytes { text.new.bytes ≡ text.old.bytes ++ (day_name t.weekday ++ (space ∷ [])) }
+    ensures bytes { text.new.bytes ≡ text.old.bytes ++ (Spec.day_name t.weekday ++ (Spec.space ∷ [])) }
     ensures len { array_string_len text.new ≡ array_string_len text.old + 4 }
 {
     let [a, b, c] = letters(day_name(t.weekday()));
@@ -156,7 +149,7 @@ pub fn push_weekday<const CAP: usize>(text: &mut ArrayString<CAP>, t: Clock)
 #[inline(always)]
 pub fn push_month<const CAP: usize>(text: &mut ArrayString<CAP>, t: Clock)
     requires { array_string_len text.old + 4 ≤ CAP }
-    ensures bytes { text.new.bytes ≡ text.old.bytes ++ (month_name t.date.month ++ (space ∷ [])) }
+    ensures bytes { text.new.bytes ≡ text.old.bytes ++ (Spec.month_name t.date.month ++ (Spec.space ∷ [])) }
     ensures len { array_string_len text.new ≡ array_string_len text.old + 4 }
 {
     let [a, b, c] = letters(month_name(t.month()));
@@ -167,7 +160,7 @@ pub fn push_month<const CAP: usize>(text: &mut ArrayString<CAP>, t: Clock)
 #[inline(always)]
 pub fn push_date<const CAP: usize>(text: &mut ArrayString<CAP>, t: Clock)
     requires { array_string_len text.old + 10 ≤ CAP }
-    ensures bytes { text.new.bytes ≡ text.old.bytes ++ date_text t.date }
+    ensures bytes { text.new.bytes ≡ text.old.bytes ++ Spec.date_text t.date }
     ensures len { array_string_len text.new ≡ array_string_len text.old + 10 }
 {
     push_ascii(text, &date_bytes(t));
@@ -177,7 +170,7 @@ pub fn push_date<const CAP: usize>(text: &mut ArrayString<CAP>, t: Clock)
 #[inline(always)]
 pub fn push_clock<const CAP: usize>(text: &mut ArrayString<CAP>, t: Clock)
     requires { array_string_len text.old + 8 ≤ CAP }
-    ensures bytes { text.new.bytes ≡ text.old.bytes ++ clock_text t.clock }
+    ensures bytes { text.new.bytes ≡ text.old.bytes ++ Spec.clock_text t.clock }
     ensures len { array_string_len text.new ≡ array_string_len text.old + 8 }
 {
     push_ascii(text, &clock_bytes(t));
@@ -186,10 +179,10 @@ pub fn push_clock<const CAP: usize>(text: &mut ArrayString<CAP>, t: Clock)
 /// Appends the sign of an offset and two digits of its whole hours.
 #[inline(always)]
 pub fn push_hours<const CAP: usize>(text: &mut ArrayString<CAP>, offset: OffsetInSeconds)
-    requires short { unsigned_abs offset < hundred_hours }
+    requires short { unsigned_abs offset < Spec.hundred_hours }
     requires room { array_string_len text.old + 3 ≤ CAP }
     ensures bytes { text.new.bytes
-        ≡ text.old.bytes ++ offset_sign offset ∷ two_digits (hours_in (unsigned_abs offset)) }
+        ≡ text.old.bytes ++ Spec.offset_sign offset ∷ Spec.two_digits (Spec.hours_in (unsigned_abs offset)) }
     ensures len { array_string_len text.new ≡ array_string_len text.old + 3 }
 {
     let hours = offset.unsigned_abs() / SECONDS_PER_HOUR as u32;
@@ -201,7 +194,7 @@ pub fn push_hours<const CAP: usize>(text: &mut ArrayString<CAP>, offset: OffsetI
 #[inline(always)]
 pub fn push_minutes<const CAP: usize>(text: &mut ArrayString<CAP>, offset: OffsetInSeconds)
     requires { array_string_len text.old + 2 ≤ CAP }
-    ensures bytes { text.new.bytes ≡ text.old.bytes ++ two_digits (minutes_in (unsigned_abs offset)) }
+    ensures bytes { text.new.bytes ≡ text.old.bytes ++ Spec.two_digits (Spec.minutes_in (unsigned_abs offset)) }
     ensures len { array_string_len text.new ≡ array_string_len text.old + 2 }
 {
     let minutes = offset.unsigned_abs() % SECONDS_PER_HOUR as u32 / SECONDS_PER_MINUTE as u32;
@@ -211,9 +204,9 @@ pub fn push_minutes<const CAP: usize>(text: &mut ArrayString<CAP>, offset: Offse
 /// Appends ` +hhmm`.
 #[inline(always)]
 pub fn push_offset<const CAP: usize>(text: &mut ArrayString<CAP>, offset: OffsetInSeconds)
-    requires short { unsigned_abs offset < hundred_hours }
+    requires short { unsigned_abs offset < Spec.hundred_hours }
     requires room { array_string_len text.old + 6 ≤ CAP }
-    ensures bytes { text.new.bytes ≡ text.old.bytes ++ space ∷ compact_offset_text offset }
+    ensures bytes { text.new.bytes ≡ text.old.bytes ++ Spec.space ∷ Spec.compact_offset_text offset }
     ensures len { array_string_len text.new ≡ array_string_len text.old + 6 }
 {
     text.push(' ');
@@ -225,7 +218,7 @@ pub fn push_offset<const CAP: usize>(text: &mut ArrayString<CAP>, offset: Offset
 #[inline(always)]
 pub fn push_colon_offset<const CAP: usize>(text: &mut ArrayString<CAP>, t: Clock)
     requires { array_string_len text.old + 6 ≤ CAP }
-    ensures bytes { text.new.bytes ≡ text.old.bytes ++ strict_offset_text t.offset }
+    ensures bytes { text.new.bytes ≡ text.old.bytes ++ Spec.strict_offset_text t.offset }
     ensures len { array_string_len text.new ≡ array_string_len text.old + 6 }
 {
     push_hours(text, t.offset());

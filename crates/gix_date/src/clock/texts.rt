@@ -1,30 +1,27 @@
 //! The texts of a clock by the named formats, each appended to a buffer of any capacity.
 ghost use Rattle.std.specs.Prelude.{◌≡◌, ◌+◌, ◌≤◌, ◌∷◌, ◌++◌, []};
 ghost use Rattle.arrayvec.specs.ArrayString.{array_string_len};
-ghost use Rattle.gix_date.specs.Text.Characters.{comma, space};
-ghost use Rattle.gix_date.specs.Text.Names.{day_name, month_name};
-ghost use Rattle.gix_date.specs.Fields.FieldTexts.{four_digits, clock_text};
-ghost use Rattle.gix_date.specs.Fields.Offsets.{compact_offset_text};
-ghost use Rattle.gix_date.specs.Printing.NamedTexts.{rfc2822_text, git_rfc2822_text, iso8601_text, iso8601_strict_text, gitoxide_text, default_text, bare_default_text};
+ghost use Rattle.gix_date.specs as Spec;
 
 use crate::clock::Clock;
 use crate::clock::pieces::{
-    letters, push_ascii, push_clock, push_colon_offset, push_date, push_day, push_month,
-    push_offset, push_pair, push_weekday, push_year,
+    clock_bytes, letters, push_ascii, push_clock, push_colon_offset, push_date, push_day,
+    push_month, push_offset, push_pair, push_weekday, push_year,
 };
 use crate::names::{day_name, month_name};
 use arrayvec::ArrayString;
 
 /// Appends ` hh:mm:ss +hhmm`.
+#[tactic(auto, using(std::proofs::lemmas::Int::ints, crate::proofs::Printing::Appended::appended))]
 #[inline(always)]
 fn push_clock_and_offset<const CAP: usize>(text: &mut ArrayString<CAP>, t: Clock)
     requires { array_string_len text.old + 15 ≤ CAP }
     ensures bytes { text.new.bytes
-        ≡ text.old.bytes ++ space ∷ clock_text t.clock ++ space ∷ compact_offset_text t.offset }
+        ≡ text.old.bytes ++ Spec.space ∷ Spec.clock_text t.clock ++ Spec.space ∷ Spec.compact_offset_text t.offset }
     ensures len { array_string_len text.new ≡ array_string_len text.old + 15 }
 {
-    text.push(' ');
-    push_clock(text, t);
+    let [a, b, c, d, e, f, g, h] = clock_bytes(t);
+    push_ascii(text, &[b' ', a, b, c, d, e, f, g, h]);
     push_offset(text, t.offset());
 }
 
@@ -32,7 +29,7 @@ fn push_clock_and_offset<const CAP: usize>(text: &mut ArrayString<CAP>, t: Clock
 #[inline(always)]
 pub fn push_iso8601<const CAP: usize>(text: &mut ArrayString<CAP>, t: Clock)
     requires { array_string_len text.old + 25 ≤ CAP }
-    ensures bytes { text.new.bytes ≡ text.old.bytes ++ iso8601_text t }
+    ensures bytes { text.new.bytes ≡ text.old.bytes ++ Spec.iso8601_text t }
     ensures len { array_string_len text.new ≡ array_string_len text.old + 25 }
 {
     push_date(text, t);
@@ -43,7 +40,7 @@ pub fn push_iso8601<const CAP: usize>(text: &mut ArrayString<CAP>, t: Clock)
 #[inline(always)]
 pub fn push_iso8601_strict<const CAP: usize>(text: &mut ArrayString<CAP>, t: Clock)
     requires { array_string_len text.old + 25 ≤ CAP }
-    ensures bytes { text.new.bytes ≡ text.old.bytes ++ iso8601_strict_text t }
+    ensures bytes { text.new.bytes ≡ text.old.bytes ++ Spec.iso8601_strict_text t }
     ensures len { array_string_len text.new ≡ array_string_len text.old + 25 }
 {
     push_date(text, t);
@@ -56,8 +53,8 @@ pub fn push_iso8601_strict<const CAP: usize>(text: &mut ArrayString<CAP>, t: Clo
 #[inline(always)]
 fn push_from_year<const CAP: usize>(text: &mut ArrayString<CAP>, t: Clock)
     requires { array_string_len text.old + 20 ≤ CAP }
-    ensures bytes { text.new.bytes ≡ text.old.bytes ++ space ∷ four_digits t.date.year ++ space ∷ clock_text t.clock
-        ++ space ∷ compact_offset_text t.offset }
+    ensures bytes { text.new.bytes ≡ text.old.bytes ++ Spec.space ∷ Spec.four_digits t.date.year ++ Spec.space ∷ Spec.clock_text t.clock
+        ++ Spec.space ∷ Spec.compact_offset_text t.offset }
     ensures len { array_string_len text.new ≡ array_string_len text.old + 20 }
 {
     text.push(' ');
@@ -69,8 +66,8 @@ fn push_from_year<const CAP: usize>(text: &mut ArrayString<CAP>, t: Clock)
 #[inline(always)]
 fn push_from_month<const CAP: usize>(text: &mut ArrayString<CAP>, t: Clock)
     requires { array_string_len text.old + 24 ≤ CAP }
-    ensures bytes { text.new.bytes ≡ text.old.bytes ++ space ∷ month_name t.date.month ++ space ∷ four_digits t.date.year
-        ++ space ∷ clock_text t.clock ++ space ∷ compact_offset_text t.offset }
+    ensures bytes { text.new.bytes ≡ text.old.bytes ++ Spec.space ∷ Spec.month_name t.date.month ++ Spec.space ∷ Spec.four_digits t.date.year
+        ++ Spec.space ∷ Spec.clock_text t.clock ++ Spec.space ∷ Spec.compact_offset_text t.offset }
     ensures len { array_string_len text.new ≡ array_string_len text.old + 24 }
 {
     let [a, b, c] = letters(month_name(t.month()));
@@ -82,7 +79,7 @@ fn push_from_month<const CAP: usize>(text: &mut ArrayString<CAP>, t: Clock)
 #[inline(always)]
 fn push_rfc2822_name<const CAP: usize>(text: &mut ArrayString<CAP>, t: Clock)
     requires { array_string_len text.old + 5 ≤ CAP }
-    ensures bytes { text.new.bytes ≡ text.old.bytes ++ (day_name t.weekday ++ comma ∷ space ∷ []) }
+    ensures bytes { text.new.bytes ≡ text.old.bytes ++ (Spec.day_name t.weekday ++ Spec.comma ∷ Spec.space ∷ []) }
     ensures len { array_string_len text.new ≡ array_string_len text.old + 5 }
 {
     let [a, b, c] = letters(day_name(t.weekday()));
@@ -93,7 +90,7 @@ fn push_rfc2822_name<const CAP: usize>(text: &mut ArrayString<CAP>, t: Clock)
 #[inline(always)]
 pub fn push_rfc2822<const CAP: usize>(text: &mut ArrayString<CAP>, t: Clock)
     requires { array_string_len text.old + 31 ≤ CAP }
-    ensures bytes { text.new.bytes ≡ text.old.bytes ++ rfc2822_text t }
+    ensures bytes { text.new.bytes ≡ text.old.bytes ++ Spec.rfc2822_text t }
     ensures len { array_string_len text.new ≡ array_string_len text.old + 31 }
 {
     push_rfc2822_name(text, t);
@@ -105,7 +102,7 @@ pub fn push_rfc2822<const CAP: usize>(text: &mut ArrayString<CAP>, t: Clock)
 #[inline(always)]
 pub fn push_git_rfc2822<const CAP: usize>(text: &mut ArrayString<CAP>, t: Clock)
     requires { array_string_len text.old + 31 ≤ CAP }
-    ensures bytes { text.new.bytes ≡ text.old.bytes ++ git_rfc2822_text t }
+    ensures bytes { text.new.bytes ≡ text.old.bytes ++ Spec.git_rfc2822_text t }
     ensures len { array_string_len text.new ≤ array_string_len text.old + 31 }
 {
     push_rfc2822_name(text, t);
@@ -117,7 +114,7 @@ pub fn push_git_rfc2822<const CAP: usize>(text: &mut ArrayString<CAP>, t: Clock)
 #[inline(always)]
 pub fn push_gitoxide<const CAP: usize>(text: &mut ArrayString<CAP>, t: Clock)
     requires { array_string_len text.old + 30 ≤ CAP }
-    ensures bytes { text.new.bytes ≡ text.old.bytes ++ gitoxide_text t }
+    ensures bytes { text.new.bytes ≡ text.old.bytes ++ Spec.gitoxide_text t }
     ensures len { array_string_len text.new ≡ array_string_len text.old + 30 }
 {
     push_weekday(text, t);
@@ -130,7 +127,7 @@ pub fn push_gitoxide<const CAP: usize>(text: &mut ArrayString<CAP>, t: Clock)
 #[inline(always)]
 pub fn push_bare_default<const CAP: usize>(text: &mut ArrayString<CAP>, t: Clock)
     requires { array_string_len text.old + 24 ≤ CAP }
-    ensures bytes { text.new.bytes ≡ text.old.bytes ++ bare_default_text t }
+    ensures bytes { text.new.bytes ≡ text.old.bytes ++ Spec.bare_default_text t }
     ensures len { array_string_len text.new ≤ array_string_len text.old + 24 }
 {
     push_weekday(text, t);
@@ -147,7 +144,7 @@ pub fn push_bare_default<const CAP: usize>(text: &mut ArrayString<CAP>, t: Clock
 #[inline(always)]
 pub fn push_default<const CAP: usize>(text: &mut ArrayString<CAP>, t: Clock)
     requires { array_string_len text.old + 30 ≤ CAP }
-    ensures bytes { text.new.bytes ≡ text.old.bytes ++ default_text t }
+    ensures bytes { text.new.bytes ≡ text.old.bytes ++ Spec.default_text t }
     ensures len { array_string_len text.new ≤ array_string_len text.old + 30 }
 {
     push_bare_default(text, t);

@@ -2,26 +2,19 @@
 ghost use Rattle.std.specs.Prelude.{◌≡◌, ◌-ℤ◌, [], ◌∷◌, true, if◌then◌else◌, Some, None, IfOk, IfErr, IfSome, IsCharBoundary, List, option_map, ℕ};
 ghost use Rattle.jiff.specs.Words.{fixed_zone, IsOffsetSeconds};
 ghost use Rattle.jiff_core.specs.Calendar.{weekday_number};
-ghost use Rattle.gix_date.specs.Careful.Dates.{day_named, first_day, is_in_years_if_number, is_large_if_number, is_number, is_whole_git, names_its_day, unzoned_day, unzoned_git_time, unzoned_time, IsLocalIfAny};
-ghost use Rattle.gix_date.specs.Careful.Fronts.{longest_front};
-ghost use Rattle.gix_date.specs.Careful.Outcome.{careful_reading, clear_or, date_reading, has_word_before, is_clear_answer, is_in_years, local_date, names_no_other_day, reading_of_texts, unzoned_or, unzoned_reading, CarefulOutcome, First, IsPlaceIn, Local, reading_of, IsReadingOf};
-ghost use Rattle.gix_date.specs.Families.Answer.{Absolute, answer_of, HasJiffOffset};
-ghost use Rattle.gix_date.specs.Families.Raw.{allows};
-ghost use Rattle.gix_date.specs.Printing.LocalClocks.{local_day as day_by_clock};
-ghost use Rattle.gix_date.specs.Fields.Zoned.{is_instant};
-ghost use Rattle.gix_date.specs.Relative.Steps.{zone_of};
 ghost use Rattle.gix_date.specs.declared.parsing.careful.Texts.TheVariants.{Careful, All};
+ghost use Rattle.gix_date.specs as Spec;
 
 use crate::error::{CarefulError, ParseError};
 use crate::names::weekday_told;
-use crate::parsing::answer::Answer;
+use crate::parsing::Answer;
 use crate::parsing::dates::{MIN_EPOCH, first_answer, outcome};
 use crate::parsing::fronts::longest_front;
 use crate::parsing::git::{GitDate, parse_git_date, parse_unzoned_git};
 use crate::parsing::numbers::parse_int;
 use crate::parsing::patterns::parse_unzoned_day;
 use crate::parsing::raw::{RawOffsets, parse_raw};
-use crate::parsing::relative::careful::unclear_place;
+use crate::parsing::relative::pairs::unclear_place;
 use crate::parsing::relative::steps::to_instant;
 use crate::parsing::relative::{Relative, time_of_moment};
 use crate::time::{LAST_OF_YEAR_9999, SECONDS_PER_DAY, Time};
@@ -68,9 +61,7 @@ pub struct CarefulOptions {
 }
 
 impl Default for CarefulOptions {
-    ghost use Rattle.gix_date.specs.Careful.Outcome.{default_options};
-
-    ghost is_default = { λ options. options ≡ default_options };
+    ghost is_default = { λ options. options ≡ Spec.default_options };
 
     fn default() -> CarefulOptions {
         CarefulOptions {
@@ -115,8 +106,8 @@ pub fn parse_carefully(
     now: Option<Zoned<'_>>,
     options: CarefulOptions,
 ) -> Result<Time, CarefulError>
-    ensures outcome { CarefulOutcome (careful_reading options input.now) now.entry result }
-    ensures boundary { IfErr result (IsPlaceIn input.now) }
+    ensures outcome { Spec.CarefulOutcome (Spec.careful_reading options input.now) now.entry result }
+    ensures boundary { IfErr result (Spec.IsPlaceIn input.now) }
     ensures offset_fits { IfOk result (λ t. IsOffsetSeconds t.offset) }
 {
     match read(input, options) {
@@ -131,11 +122,11 @@ pub fn parse_carefully(
 }
 
 /// What a text says by the options. Not inlined, so that its frame is not that of a caller with a moment.
-#[tactic(auto, unfolding(crate::specs::Careful::Outcome::careful_reading))]
+#[tactic(auto, unfolding(crate::specs::careful_reading))]
 #[inline(never)]
 fn read(input: &str, options: CarefulOptions) -> Reading<'_>
-    ensures reading { reading_of result ≡ careful_reading options input.now }
-    ensures fits { IsReadingOf input.now result }
+    ensures reading { Spec.reading_of result ≡ Spec.careful_reading options input.now }
+    ensures fits { Spec.IsReadingOf input.now result }
 {
     match options.texts {
         Texts::Careful => read_clear(input, options),
@@ -145,8 +136,8 @@ fn read(input: &str, options: CarefulOptions) -> Reading<'_>
 
 /// What any text says.
 fn read_all(input: &str, options: CarefulOptions) -> Reading<'_>
-    ensures reading { reading_of result ≡ reading_of_texts All options input.now }
-    ensures fits { IsReadingOf input.now result }
+    ensures reading { Spec.reading_of result ≡ Spec.reading_of_texts All options input.now }
+    ensures fits { Spec.IsReadingOf input.now result }
 {
     if let Some(time) = local_date(input, options.without_offset) {
         return Reading::Local(time);
@@ -156,9 +147,10 @@ fn read_all(input: &str, options: CarefulOptions) -> Reading<'_>
 
 /// What a careful text says. Pairs and Git's own forms come first, so that each is read once; no other family has an
 /// earlier answer for them.
+#[tactic(auto, using(crate::proofs::Careful::Unzoned::day_instant))]
 fn read_clear(input: &str, options: CarefulOptions) -> Reading<'_>
-    ensures reading { reading_of result ≡ reading_of_texts Careful options input.now }
-    ensures fits { IsReadingOf input.now result }
+    ensures reading { Spec.reading_of result ≡ Spec.reading_of_texts Careful options input.now }
+    ensures fits { Spec.IsReadingOf input.now result }
 {
     let Some(pairs_end) = unclear_place(input) else {
         return Reading::First(Some(Answer::Relative(Relative::MinusPairs(input))));
@@ -178,19 +170,20 @@ fn read_clear(input: &str, options: CarefulOptions) -> Reading<'_>
 }
 
 /// What a text in one of Git's own forms says.
+#[tactic(auto, using(crate::proofs::Careful::Unzoned::git_instant))]
 fn read_git(
     input: &str,
     date: GitDate,
     without_offset: WithoutOffset,
     pairs_end: usize,
 ) -> Reading<'_>
-    requires unzoned { unzoned_git_time input.now ≡ (if date.has_offset then None else Some date.time) }
-    requires whole { date.is_whole ≡ is_whole_git input.now }
+    requires unzoned { Spec.unzoned_git_time input.now ≡ (if date.has_offset then None else Some date.time) }
+    requires whole { date.is_whole ≡ Spec.is_whole_git input.now }
     requires offset { IsOffsetSeconds date.time.offset }
     requires boundary { IsCharBoundary input.now pairs_end }
-    ensures reading { reading_of result ≡ clear_or (is_whole_git input.now)
-        (unzoned_or without_offset (unzoned_git_time input.now) (First (Some (Absolute date.time)))) (longest_front input.now pairs_end) }
-    ensures fits { IsReadingOf input.now result }
+    ensures reading { Spec.reading_of result ≡ Spec.clear_or (Spec.is_whole_git input.now)
+        (Spec.unzoned_or without_offset (Spec.unzoned_git_time input.now) (Spec.First (Some (Spec.Absolute date.time)))) (Spec.longest_front input.now pairs_end) }
+    ensures fits { Spec.IsReadingOf input.now result }
 {
     if !date.is_whole {
         return Reading::Unclear(longest_front(input, pairs_end));
@@ -203,10 +196,10 @@ fn read_git(
 
 /// What a date without an offset says, by its time in UTC.
 fn read_unzoned<'a>(time: Time, without_offset: WithoutOffset) -> Reading<'a>
-    requires instant { is_instant time.seconds ≡ true }
+    requires instant { Spec.is_instant time.seconds ≡ true }
     requires offset { IsOffsetSeconds time.offset }
-    ensures reading { reading_of result ≡ unzoned_reading without_offset time }
-    ensures fits { (text : List ℕ) → IsReadingOf text result }
+    ensures reading { Spec.reading_of result ≡ Spec.unzoned_reading without_offset time }
+    ensures fits { (text : List ℕ) → Spec.IsReadingOf text result }
 {
     match without_offset {
         WithoutOffset::Utc => Reading::First(Some(Answer::Absolute(time))),
@@ -222,11 +215,11 @@ fn read_date<'a>(
     raw: RawOffsets,
     pairs_end: usize,
 ) -> Reading<'a>
-    requires offset { IfSome answer HasJiffOffset }
+    requires offset { IfSome answer Spec.HasJiffOffset }
     requires boundary { IsCharBoundary input.now pairs_end }
-    ensures reading { reading_of result ≡ date_reading (allows raw) input.now (longest_front input.now pairs_end)
-        (option_map answer_of answer.entry) }
-    ensures fits { IsReadingOf input.now result }
+    ensures reading { Spec.reading_of result ≡ Spec.date_reading (Spec.allows raw) input.now (Spec.longest_front input.now pairs_end)
+        (option_map Spec.answer_of answer.entry) }
+    ensures fits { Spec.IsReadingOf input.now result }
 {
     if !names_no_other_day(input, answer) {
         return Reading::Unclear(0);
@@ -245,17 +238,17 @@ fn read_date<'a>(
 }
 
 /// Whether a letter or digit of ASCII stands before this place.
-#[tactic(auto, unfolding(crate::specs::Careful::Outcome::has_word_before))]
+#[tactic(auto, unfolding(crate::specs::has_word_before))]
 fn has_word_before(input: &str, place: usize) -> bool
     requires { IsCharBoundary input.now place }
-    ensures { result ≡ has_word_before input.now place }
+    ensures { result ≡ Spec.has_word_before input.now place }
 {
     input[..place].bytes().any(|b| b.is_ascii_alphanumeric())
 }
 
 /// Whether a date that names a day of the week names its own.
 fn names_no_other_day(input: &str, answer: Option<Answer<'_>>) -> bool
-    ensures { result ≡ names_no_other_day input.now (option_map answer_of answer.entry) }
+    ensures { result ≡ Spec.names_no_other_day input.now (option_map Spec.answer_of answer.entry) }
 {
     match answer {
         Some(Answer::Absolute(time)) => names_its_day(input, time),
@@ -265,7 +258,7 @@ fn names_no_other_day(input: &str, answer: Option<Answer<'_>>) -> bool
 
 /// Whether an answer says all of its text but for a day of the week.
 fn is_clear_answer(input: &str, answer: Option<Answer<'_>>, raw: RawOffsets) -> bool
-    ensures { result ≡ is_clear_answer (allows raw) input.now (option_map answer_of answer.entry) }
+    ensures { result ≡ Spec.is_clear_answer (Spec.allows raw) input.now (option_map Spec.answer_of answer.entry) }
 {
     match answer {
         Some(Answer::Absolute(time)) => is_large_if_number(input, time, raw),
@@ -276,7 +269,7 @@ fn is_clear_answer(input: &str, answer: Option<Answer<'_>>, raw: RawOffsets) -> 
 
 /// Whether an answer to a number of seconds is of the year 9999 at the latest.
 fn is_in_years(input: &str, answer: Option<Answer<'_>>, raw: RawOffsets) -> bool
-    ensures { result ≡ is_in_years (allows raw) input.now (option_map answer_of answer.entry) }
+    ensures { result ≡ Spec.is_in_years (Spec.allows raw) input.now (option_map Spec.answer_of answer.entry) }
 {
     match answer {
         Some(Answer::Absolute(time)) => is_in_years_if_number(input, time, raw),
@@ -285,9 +278,9 @@ fn is_in_years(input: &str, answer: Option<Answer<'_>>, raw: RawOffsets) -> bool
 }
 
 /// Whether a text begins with no day of the week, or with that of the time's own clock.
-#[tactic(auto, unfolding(crate::specs::Careful::Dates::names_its_day))]
+#[tactic(auto, unfolding(crate::specs::names_its_day))]
 fn names_its_day(input: &str, time: Time) -> bool
-    ensures { result ≡ names_its_day input.now time }
+    ensures { result ≡ Spec.names_its_day input.now time }
 {
     match first_day(input) {
         Some(day) => day == weekday_of(time),
@@ -296,9 +289,9 @@ fn names_its_day(input: &str, time: Time) -> bool
 }
 
 /// The day of the week, from 0 for Monday, that the first three letters name, in any letter case.
-#[tactic(auto, unfolding(crate::specs::Careful::Dates::first_day, crate::specs::Careful::Dates::day_named))]
+#[tactic(auto, unfolding(crate::specs::first_day, crate::specs::day_named))]
 fn first_day(input: &str) -> Option<u8>
-    ensures { result ≡ first_day input.now }
+    ensures { result ≡ Spec.first_day input.now }
 {
     match input.as_bytes() {
         [a, b, c, ..] => day_named(*a, *b, *c),
@@ -307,16 +300,16 @@ fn first_day(input: &str) -> Option<u8>
 }
 
 /// The day of the week, from 0 for Monday, that three letters name, in any letter case.
-#[tactic(auto, using(crate::proofs::Fields::ThreeLetters::day_is_named), unfolding(crate::specs::Careful::Dates::day_named))]
+#[tactic(auto, using(crate::proofs::Fields::ThreeLetters::day_is_named), unfolding(crate::specs::day_named))]
 fn day_named(a: u8, b: u8, c: u8) -> Option<u8>
-    ensures { result ≡ day_named (a ∷ b ∷ c ∷ []) }
+    ensures { result ≡ Spec.day_named (a ∷ b ∷ c ∷ []) }
 {
     weekday_told(&[a, b, c])
 }
 
 /// The day of the week by the time's own clock, from 0 for Monday.
 fn weekday_of(time: Time) -> u8
-    ensures { result ≡ weekday_number (day_by_clock time) }
+    ensures { result ≡ weekday_number (Spec.local_day time) }
 {
     let local = i128::from(time.seconds) + i128::from(time.offset);
     let day = local.div_euclid(i128::from(SECONDS_PER_DAY));
@@ -324,25 +317,25 @@ fn weekday_of(time: Time) -> u8
 }
 
 /// Whether a number has as many seconds as a bare epoch needs.
-#[tactic(auto, unfolding(crate::specs::Careful::Dates::is_large_if_number))]
+#[tactic(auto, unfolding(crate::specs::is_large_if_number))]
 fn is_large_if_number(input: &str, time: Time, raw: RawOffsets) -> bool
-    ensures { result ≡ is_large_if_number (allows raw) input.now time }
+    ensures { result ≡ Spec.is_large_if_number (Spec.allows raw) input.now time }
 {
     time.seconds >= MIN_EPOCH || !is_number(input, raw)
 }
 
 /// Whether a number has seconds of the year 9999 at the latest.
-#[tactic(auto, unfolding(crate::specs::Careful::Dates::is_in_years_if_number))]
+#[tactic(auto, unfolding(crate::specs::is_in_years_if_number))]
 fn is_in_years_if_number(input: &str, time: Time, raw: RawOffsets) -> bool
-    ensures { result ≡ is_in_years_if_number (allows raw) input.now time }
+    ensures { result ≡ Spec.is_in_years_if_number (Spec.allows raw) input.now time }
 {
     time.seconds <= LAST_OF_YEAR_9999 || !is_number(input, raw)
 }
 
 /// Whether a text is a number of seconds, alone or before an offset.
-#[tactic(auto, unfolding(crate::specs::Careful::Dates::is_number))]
+#[tactic(auto, unfolding(crate::specs::is_number))]
 fn is_number(input: &str, raw: RawOffsets) -> bool
-    ensures { result ≡ is_number (allows raw) input.now }
+    ensures { result ≡ Spec.is_number (Spec.allows raw) input.now }
 {
     parse_raw(input, raw).is_some() || parse_int(input).is_some()
 }
@@ -350,8 +343,8 @@ fn is_number(input: &str, raw: RawOffsets) -> bool
 /// The time in UTC of a date that is one of the moment's zone.
 #[tactic(auto, using(crate::proofs::Careful::Unzoned::unzoned_has))]
 fn local_date(input: &str, without_offset: WithoutOffset) -> Option<Time>
-    ensures date { result ≡ local_date without_offset input.now }
-    ensures instant { IfSome result (λ t. is_instant t.seconds ≡ true) }
+    ensures date { result ≡ Spec.local_date without_offset input.now }
+    ensures instant { IfSome result (λ t. Spec.is_instant t.seconds ≡ true) }
 {
     match without_offset {
         WithoutOffset::Utc => None,
@@ -360,9 +353,9 @@ fn local_date(input: &str, without_offset: WithoutOffset) -> Option<Time>
 }
 
 /// The time in UTC of a date in which no offset is written.
-#[tactic(auto, unfolding(crate::specs::Careful::Dates::unzoned_time))]
+#[tactic(auto, unfolding(crate::specs::unzoned_time))]
 fn parse_unzoned(input: &str) -> Option<Time>
-    ensures { result ≡ unzoned_time input.now }
+    ensures { result ≡ Spec.unzoned_time input.now }
 {
     if let Some(time) = parse_unzoned_day(input) {
         return Some(time);
@@ -372,18 +365,15 @@ fn parse_unzoned(input: &str) -> Option<Time>
 
 /// What a date of the moment's zone results in, by its time in UTC.
 fn local_time(time: Time, now: Option<Zoned<'_>>) -> Result<Time, CarefulError>
-    requires { is_instant time.seconds ≡ true }
-    ensures outcome { CarefulOutcome (Local time) now.entry result }
-    ensures boundary { (text : List ℕ) → IfErr result (IsPlaceIn text) }
+    requires { Spec.is_instant time.seconds ≡ true }
+    ensures outcome { Spec.CarefulOutcome (Spec.Local time) now.entry result }
+    ensures boundary { (text : List ℕ) → IfErr result (Spec.IsPlaceIn text) }
     ensures offset_fits { IfOk result (λ t. IsOffsetSeconds t.offset) }
 {
     let Some(moment) = now else {
         return Err(CarefulError::Refused(ParseError::MissingNow));
     };
-    match time_in_zone(time, moment) {
-        Some(time) => Ok(time),
-        None => Err(CarefulError::Refused(ParseError::Range)),
-    }
+    time_in_zone(time, moment).ok_or(CarefulError::Refused(ParseError::Range))
 }
 
 /// The time at which the clock of the moment's zone shows what the clock of UTC shows at this time, with the zone's offset
@@ -391,8 +381,8 @@ fn local_time(time: Time, now: Option<Zoned<'_>>) -> Result<Time, CarefulError>
 ///
 /// The zone chooses as for [`WithoutOffset::MomentsZone`]. `None` if it has no instant for that clock. Takes no memory.
 fn time_in_zone(time: Time, moment: Zoned<'_>) -> Option<Time>
-    requires { is_instant time.seconds ≡ true }
-    ensures local { IsLocalIfAny (zone_of moment.entry) time result }
+    requires { Spec.is_instant time.seconds ≡ true }
+    ensures local { Spec.IsLocalIfAny (Spec.zone_of moment.entry) time result }
     ensures offset_fits { IfSome result (λ t. IsOffsetSeconds t.offset) }
 {
     let Ok(instant) = Timestamp::from_second(time.seconds) else {

@@ -3,32 +3,21 @@ ghost use Rattle.std.specs.Prelude.{◌≡◌, if◌then◌else◌, IfOk, IfSome
 ghost use Rattle.std.specs.Int.Signed.{le_z};
 ghost use Rattle.std.specs.Option.{option_or};
 ghost use Rattle.jiff.specs.Words.{IsOffsetSeconds};
-ghost use Rattle.gix_date.specs.Families.Answer.{Absolute, Relative, answer_of, HasJiffOffset};
-ghost use Rattle.gix_date.specs.Families.Epoch.{at_time, min_bare_epoch, utc_time};
-ghost use Rattle.gix_date.specs.Families.Order.{AtText, RawText, family_answer, first_family, first_family_by, ParseOutcome, ParseNoAllocOutcome, RefusesWithCopy, RefusesUnknown, RefusesDate};
-ghost use Rattle.gix_date.specs.Families.Raw.{allows};
-ghost use Rattle.gix_date.specs.Families.Shapes.{first_among, shape_families};
-ghost use Rattle.gix_date.specs.Families.Usual.{AnswersFirst};
-ghost use Rattle.gix_date.specs.Git.Forms.{git_time};
-ghost use Rattle.gix_date.specs.Relative.Dates.{relative_date};
+ghost use Rattle.gix_date.specs.Families.Answer.{Relative};
+ghost use Rattle.gix_date.specs as Spec;
 
 use crate::error::{Error, InputBytes, ParseError};
-use crate::parsing::answer::Answer;
-use crate::parsing::fast::fast_number;
 use crate::parsing::fields::skip_char;
 use crate::parsing::git::parse_git_date_format;
 use crate::parsing::numbers::{fast_int, parse_int};
-use crate::parsing::patterns::usual::{MIN_USUAL_LEN, usual_time};
 use crate::parsing::patterns::{parse_dashed, parse_named_day, parse_rfc2822};
 use crate::parsing::raw::{RawOffsets, fast_raw, parse_raw};
-use crate::parsing::relative;
 use crate::parsing::shape::Shape;
+use crate::parsing::usual::usual_date;
+use crate::parsing::{Answer, relative};
 use crate::time::{SecondsSinceUnixEpoch, Time};
 use jiff::Zoned;
 use std::alloc::Global;
-
-/// How many bytes `2018-12-24` has.
-const DAY_LEN: usize = 10;
 
 /// The least seconds of a bare epoch: less could be a compact date, as in Git.
 pub(crate) const MIN_EPOCH: i64 = 100_000_000;
@@ -54,7 +43,7 @@ pub(crate) const MIN_EPOCH: i64 = 100_000_000;
 /// [`Error::Memory`] replaces them; nothing else takes memory. [`Error::MissingNow`] for a relative text without a
 /// moment, and [`Error::Range`] if it names no instant of `jiff`.
 pub fn parse(alloc: Global, input: &str, now: Option<Zoned<'_>>) -> Result<Time, Error>
-    ensures outcome { ParseOutcome (first_family input.now) input.now now.entry result }
+    ensures outcome { Spec.ParseOutcome (Spec.first_family input.now) input.now now.entry result }
     ensures offset_fits { IfOk result (λ t. IsOffsetSeconds t.offset) }
 {
     parse_with(alloc, input, now, RawOffsets::Quarter)
@@ -70,7 +59,7 @@ pub fn parse_with(
     now: Option<Zoned<'_>>,
     raw: RawOffsets,
 ) -> Result<Time, Error>
-    ensures outcome { ParseOutcome (first_family_by (allows raw) input.now) input.now now.entry result }
+    ensures outcome { Spec.ParseOutcome (Spec.first_family_by (Spec.allows raw) input.now) input.now now.entry result }
     ensures offset_fits { IfOk result (λ t. IsOffsetSeconds t.offset) }
 {
     match parse_no_alloc(input, now, raw) {
@@ -91,7 +80,7 @@ pub fn parse_no_alloc(
     now: Option<Zoned<'_>>,
     raw: RawOffsets,
 ) -> Result<Time, ParseError>
-    ensures outcome { ParseNoAllocOutcome (first_family_by (allows raw) input.now) now.entry result }
+    ensures outcome { Spec.ParseNoAllocOutcome (Spec.first_family_by (Spec.allows raw) input.now) now.entry result }
     ensures offset_fits { IfOk result (λ t. IsOffsetSeconds t.offset) }
 {
     if let Some(time) = usual_date(input, raw) {
@@ -106,8 +95,8 @@ pub(crate) fn outcome(
     answer: Option<Answer<'_>>,
     now: Option<Zoned<'_>>,
 ) -> Result<Time, ParseError>
-    requires { IfSome answer HasJiffOffset }
-    ensures outcome { ParseNoAllocOutcome (option_map answer_of answer.entry) now.entry result }
+    requires { IfSome answer Spec.HasJiffOffset }
+    ensures outcome { Spec.ParseNoAllocOutcome (option_map Spec.answer_of answer.entry) now.entry result }
     ensures offset_fits { IfOk result (λ t. IsOffsetSeconds t.offset) }
 {
     match answer {
@@ -121,7 +110,7 @@ pub(crate) fn outcome(
 
 /// The refusal with a copy of the text, where it has one.
 fn with_copy(alloc: Global, input: &str, refusal: ParseError) -> Error
-    ensures { RefusesWithCopy input.now refusal result }
+    ensures { Spec.RefusesWithCopy input.now refusal result }
 {
     match refusal {
         ParseError::UnknownFormat => unknown_format(alloc, input),
@@ -134,8 +123,8 @@ fn with_copy(alloc: Global, input: &str, refusal: ParseError) -> Error
 /// The answer of the first family that holds the text.
 #[inline(always)]
 pub(crate) fn first_answer(input: &str, raw: RawOffsets) -> Option<Answer<'_>>
-    ensures first { option_map answer_of result ≡ first_family_by (allows raw) input.now }
-    ensures offset_fits { IfSome result HasJiffOffset }
+    ensures first { option_map Spec.answer_of result ≡ Spec.first_family_by (Spec.allows raw) input.now }
+    ensures offset_fits { IfSome result Spec.HasJiffOffset }
 {
     if let Some(time) = usual_date(input, raw) {
         return Some(Answer::Absolute(time));
@@ -143,48 +132,13 @@ pub(crate) fn first_answer(input: &str, raw: RawOffsets) -> Option<Answer<'_>>
     any_answer(input, raw)
 }
 
-/// The time of a raw text, a number or a date in its usual form, which no family before theirs holds. Their lengths tell
-/// which is tried. `None` means only that the text is not in such a form.
-#[inline(always)]
-fn usual_date(input: &str, raw: RawOffsets) -> Option<Time>
-    ensures first { IfSome result (λ t. first_family_by (allows raw) input.now ≡ Some (Absolute t)) }
-    ensures offset_fits { IfSome result (λ t. IsOffsetSeconds t.offset) }
-{
-    if input.len() >= MIN_USUAL_LEN {
-        return usual_time(input.as_bytes());
-    }
-    if let Some(time) = fast_raw(input, raw) {
-        return Some(time);
-    }
-    if let Some(seconds) = fast_number(input) {
-        return epoch_time(seconds);
-    }
-    usual_day(input)
-}
-
-/// The midnight in UTC of a day alone of ten bytes: `2018-12-24`.
-#[inline(always)]
-fn usual_day(input: &str) -> Option<Time>
-    ensures first { IfSome result (AnswersFirst input.now) }
-    ensures offset_fits { IfSome result (λ t. IsOffsetSeconds t.offset) }
-{
-    let bytes = input.as_bytes();
-    if bytes.len() != DAY_LEN || bytes[4] != b'-' {
-        return None;
-    }
-    match parse_dashed(input) {
-        Some(Answer::Absolute(time)) => Some(time),
-        _ => None,
-    }
-}
-
 /// The answer of the first family that holds the text, by its shape. Not inlined, so that a usual date does not pay for
 /// the frames of all families.
 #[tactic(auto, using(crate::proofs::Families::Shapes::is_dispatched))]
 #[inline(never)]
 fn any_answer(input: &str, raw: RawOffsets) -> Option<Answer<'_>>
-    ensures first { option_map answer_of result ≡ first_family_by (allows raw) input.now }
-    ensures offset_fits { IfSome result HasJiffOffset }
+    ensures first { option_map Spec.answer_of result ≡ Spec.first_family_by (Spec.allows raw) input.now }
+    ensures offset_fits { IfSome result Spec.HasJiffOffset }
 {
     answer_by_shape(Shape::of(input), input, raw)
 }
@@ -205,11 +159,11 @@ macro_rules! first_of {
 
 /// The answer of the first of a shape's families that holds the text. Each arm tries the families of `shape_families`, in
 /// their order.
-#[tactic(auto, unfolding(crate::specs::Families::Epoch::epoch_time))]
+#[tactic(auto, unfolding(crate::specs::epoch_time))]
 #[inline(always)]
 fn answer_by_shape<'a>(shape: Shape, input: &'a str, raw: RawOffsets) -> Option<Answer<'a>>
-    ensures first { option_map answer_of result ≡ first_among (allows raw) (shape_families shape) input.now }
-    ensures offset_fits { IfSome result HasJiffOffset }
+    ensures first { option_map Spec.answer_of result ≡ Spec.first_among (Spec.allows raw) (Spec.shape_families shape) input.now }
+    ensures offset_fits { IfSome result Spec.HasJiffOffset }
 {
     match shape {
         Shape::AtSign => first_of!(at_answer(input, raw), relative_answer(input)),
@@ -241,8 +195,8 @@ fn answer_by_shape<'a>(shape: Shape, input: &'a str, raw: RawOffsets) -> Option<
 /// The answer of the family of at texts.
 #[inline(always)]
 fn at_answer(input: &str, raw: RawOffsets) -> Option<Answer<'_>>
-    ensures answer { option_map answer_of result ≡ family_answer (allows raw) AtText input.now }
-    ensures offset_fits { IfSome result HasJiffOffset }
+    ensures answer { option_map Spec.answer_of result ≡ Spec.family_answer (Spec.allows raw) Spec.AtText input.now }
+    ensures offset_fits { IfSome result Spec.HasJiffOffset }
 {
     Some(Answer::Absolute(parse_at(input, raw)?))
 }
@@ -250,17 +204,17 @@ fn at_answer(input: &str, raw: RawOffsets) -> Option<Answer<'_>>
 /// The answer of the family of bare epochs for this number.
 #[inline(always)]
 fn epoch_answer<'a>(seconds: SecondsSinceUnixEpoch) -> Option<Answer<'a>>
-    ensures first { option_map answer_of result
-        ≡ (if le_z min_bare_epoch seconds then Some (Absolute (utc_time seconds)) else None) }
-    ensures offset_fits { IfSome result HasJiffOffset }
+    ensures first { option_map Spec.answer_of result
+        ≡ (if le_z Spec.min_bare_epoch seconds then Some (Spec.Absolute (Spec.utc_time seconds)) else None) }
+    ensures offset_fits { IfSome result Spec.HasJiffOffset }
 {
     Some(Answer::Absolute(epoch_time(seconds)?))
 }
 
 /// The time of a bare epoch of this number.
 #[inline(always)]
-fn epoch_time(seconds: SecondsSinceUnixEpoch) -> Option<Time>
-    ensures time { result ≡ (if le_z min_bare_epoch seconds then Some (utc_time seconds) else None) }
+pub(crate) fn epoch_time(seconds: SecondsSinceUnixEpoch) -> Option<Time>
+    ensures time { result ≡ (if le_z Spec.min_bare_epoch seconds then Some (Spec.utc_time seconds) else None) }
     ensures offset_fits { IfSome result (λ t. IsOffsetSeconds t.offset) }
 {
     if seconds >= MIN_EPOCH {
@@ -273,8 +227,8 @@ fn epoch_time(seconds: SecondsSinceUnixEpoch) -> Option<Time>
 /// The answer of the family of Git's own forms.
 #[inline(always)]
 fn git_answer(input: &str) -> Option<Answer<'_>>
-    ensures answer { option_map answer_of result ≡ option_map Absolute (git_time input.now) }
-    ensures offset_fits { IfSome result HasJiffOffset }
+    ensures answer { option_map Spec.answer_of result ≡ option_map Spec.Absolute (Spec.git_time input.now) }
+    ensures offset_fits { IfSome result Spec.HasJiffOffset }
 {
     Some(Answer::Absolute(parse_git_date_format(input)?))
 }
@@ -282,8 +236,8 @@ fn git_answer(input: &str) -> Option<Answer<'_>>
 /// The answer of the family of relative texts.
 #[inline(always)]
 fn relative_answer(input: &str) -> Option<Answer<'_>>
-    ensures answer { option_map answer_of result ≡ option_map Relative (relative_date input.now) }
-    ensures offset_fits { IfSome result HasJiffOffset }
+    ensures answer { option_map Spec.answer_of result ≡ option_map Relative (Spec.relative_date input.now) }
+    ensures offset_fits { IfSome result Spec.HasJiffOffset }
 {
     Some(Answer::Relative(relative::parse(input)?))
 }
@@ -291,15 +245,15 @@ fn relative_answer(input: &str) -> Option<Answer<'_>>
 /// The answer of the family of raw texts.
 #[inline(always)]
 fn raw_answer(input: &str, raw: RawOffsets) -> Option<Answer<'_>>
-    ensures answer { option_map answer_of result ≡ family_answer (allows raw) RawText input.now }
-    ensures offset_fits { IfSome result HasJiffOffset }
+    ensures answer { option_map Spec.answer_of result ≡ Spec.family_answer (Spec.allows raw) Spec.RawText input.now }
+    ensures offset_fits { IfSome result Spec.HasJiffOffset }
 {
     Some(Answer::Absolute(parse_raw(input, raw)?))
 }
 
 /// The refusal of a text that no family holds.
 fn unknown_format(alloc: Global, input: &str) -> Error
-    ensures { RefusesUnknown input.now result }
+    ensures { Spec.RefusesUnknown input.now result }
 {
     match InputBytes::copied(alloc, input) {
         Ok(input) => Error::UnknownFormat { input },
@@ -309,7 +263,7 @@ fn unknown_format(alloc: Global, input: &str) -> Error
 
 /// The refusal of a day whose midnight is no instant.
 fn date_conversion(alloc: Global, input: &str) -> Error
-    ensures { RefusesDate input.now result }
+    ensures { Spec.RefusesDate input.now result }
 {
     match InputBytes::copied(alloc, input) {
         Ok(input) => Error::DateConversion { input },
@@ -318,9 +272,9 @@ fn date_conversion(alloc: Global, input: &str) -> Error
 }
 
 /// The time of an at text. Its usual forms come first: a usual raw text, and digits alone.
-#[tactic(auto, using(std::proofs::lemmas::Int::ints, crate::proofs::Families::Shapes::at_int), unfolding(crate::specs::Families::Epoch::at_time))]
+#[tactic(auto, using(std::proofs::lemmas::Int::ints, crate::proofs::Families::Shapes::at_int), unfolding(crate::specs::at_time))]
 fn parse_at(input: &str, raw: RawOffsets) -> Option<Time>
-    ensures time { result ≡ at_time (allows raw) input.now }
+    ensures time { result ≡ Spec.at_time (Spec.allows raw) input.now }
     ensures offset_fits { IfSome result (λ t. IsOffsetSeconds t.offset) }
 {
     let text = skip_char('@', input)?;

@@ -1,7 +1,6 @@
 //! Fast paths for usual headers and numbers. `None` means only that the text has another form.
 ghost use Rattle.std.specs.Prelude.{◌≡◌, IfSome, Some, length};
-ghost use Rattle.gix_date.specs.Header.Reading.{header_time, ArePairsButSixth, IsUsualHeader};
-ghost use Rattle.gix_date.specs.Text.Numbers.{int_value};
+ghost use Rattle.gix_date.specs as Spec;
 
 use crate::parsing::numbers::{MAX_DIGITS, TEN_AND_ONE, fast_int};
 use crate::parsing::offset::{OffsetFields, parse_offset_fields, sign_of};
@@ -24,16 +23,17 @@ const EPOCH_BYTES: usize = 9;
 /// It is read in one pass, without a search for words.
 #[tactic(auto, using(std::proofs::lemmas::Int::ints, crate::proofs::Fast::FastHeaders::plain_time, crate::proofs::Fields::FieldsTaken::time_at))]
 pub(crate) fn fast_header(input: &str) -> Option<Time>
-    ensures { IfSome result (λ t. header_time input.now ≡ Some t) }
+    ensures { IfSome result (λ t. Spec.header_time input.now ≡ Some t) }
 {
     let (seconds, fields) = fast_fields(input)?;
     Some(Time::new(seconds, fields.in_seconds()))
 }
 
 /// The seconds and the offset's fields of a usual header. Nearly all have ten digits.
+#[tactic(auto, using(std::proofs::lemmas::Int::ints, crate::proofs::Text::AsciiCuts::byte_end, crate::proofs::Fast::FastHeaders::by_places))]
 #[inline(always)]
 pub(crate) fn fast_fields(input: &str) -> Option<(SecondsSinceUnixEpoch, OffsetFields)>
-    ensures { IfSome result (λ found. IsUsualHeader input.now found.0 found.1) }
+    ensures { IfSome result (λ found. Spec.IsUsualHeader input.now found.0 found.1) }
 {
     let bytes = input.as_bytes();
     if bytes.len() < ZONE_BYTES {
@@ -55,9 +55,10 @@ pub(crate) fn fast_fields(input: &str) -> Option<(SecondsSinceUnixEpoch, OffsetF
 }
 
 /// The seconds and the offset's fields of a header of ten digits, one space, a sign and four digits.
+#[tactic(auto, using(crate::proofs::Fast::TenDigits::ten_header, crate::proofs::Fast::TenDigits::hours_small, crate::proofs::Fast::TenDigits::minutes_small))]
 #[inline(always)]
 fn ten_digit_fields(bytes: &[u8]) -> Option<(SecondsSinceUnixEpoch, OffsetFields)>
-    ensures { IfSome result (λ found. IsUsualHeader bytes.now found.0 found.1) }
+    ensures { IfSome result (λ found. Spec.IsUsualHeader bytes.now found.0 found.1) }
 {
     match bytes {
         [_, _, _, _, _, _, _, _, _, _, b' ', mark, _, _, _, _] => {
@@ -82,7 +83,7 @@ fn ten_digit_fields(bytes: &[u8]) -> Option<(SecondsSinceUnixEpoch, OffsetFields
 #[inline(always)]
 fn pairs_but_one(bytes: &[u8]) -> Option<[u16; 8]>
     requires { length bytes.now ≡ TEN_DIGIT_BYTES }
-    ensures { IfSome result (λ pairs. ArePairsButSixth bytes.now pairs) }
+    ensures { IfSome result (λ pairs. Spec.ArePairsButSixth bytes.now pairs) }
 {
     let digits = u8x16::from_slice(bytes) - u8x16::splat(b'0');
     let others = digits.simd_ge(u8x16::splat(10)).to_bitmask();
@@ -97,7 +98,7 @@ fn pairs_but_one(bytes: &[u8]) -> Option<[u16; 8]>
 /// the first of the last six, and the ninth.
 #[inline(always)]
 pub(crate) fn fast_number(input: &str) -> Option<SecondsSinceUnixEpoch>
-    ensures { IfSome result (λ n. int_value input.now ≡ Some n) }
+    ensures { IfSome result (λ n. Spec.int_value input.now ≡ Some n) }
 {
     let bytes = input.as_bytes();
     if bytes.len() < EPOCH_BYTES || bytes.len() > MAX_DIGITS {

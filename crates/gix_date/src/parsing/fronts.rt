@@ -1,10 +1,10 @@
 //! Where a text that is not careful stops being so: at the end of the longest front that some form of a date has.
 ghost use Rattle.std.specs.Prelude.{◌≡◌, ◌<◌, ◌-◌, length, option_copied, if◌then◌else◌, nat_lt, IsCharBoundary};
-ghost use Rattle.gix_date.specs.Careful.Fronts.{left_by, skip_number, skip_marked, skip_day, skip_clock, skip_named_day, skip_git_day, skip_bare_fraction, skip_git_clock, git_parts, iso8601_parts, strict_parts, rfc2822_parts, gitoxide_parts, default_parts, longest_front, IsRestOf};
+ghost use Rattle.gix_date.specs as Spec;
 
 use crate::civil::is_date;
 use crate::parsing::fields::skip_char;
-use crate::parsing::git::offset::parse_git_offset;
+use crate::parsing::git::clock::parse_git_offset;
 use crate::parsing::git::read_front;
 use crate::parsing::numbers::{read_field, read_two_digits, read_year, skip_digits};
 use crate::parsing::patterns::fields::{
@@ -15,10 +15,10 @@ use crate::parsing::patterns::skip_day_name;
 use crate::time::{MAX_HOUR, MAX_MINUTE, MAX_SECOND};
 
 /// The end of the longest front that a form of a date has, or pairs, which stop at `pairs_end`.
-#[tactic(auto, unfolding(crate::specs::Careful::Fronts::longest_front))]
+#[tactic(auto, using(crate::proofs::Careful::LeftTexts::git_left, crate::proofs::Careful::LeftTexts::iso8601_left, crate::proofs::Careful::LeftTexts::strict_left, crate::proofs::Careful::LeftTexts::rfc2822_left, crate::proofs::Careful::LeftTexts::gitoxide_left, crate::proofs::Careful::LeftTexts::default_left), unfolding(crate::specs::longest_front))]
 pub(crate) fn longest_front(text: &str, pairs_end: usize) -> usize
     requires { IsCharBoundary text.now pairs_end }
-    ensures place { result ≡ longest_front text.now pairs_end }
+    ensures place { result ≡ Spec.longest_front text.now pairs_end }
     ensures boundary { IsCharBoundary text.now result }
 {
     let place = later(text, default_left(text), pairs_end);
@@ -30,8 +30,9 @@ pub(crate) fn longest_front(text: &str, pairs_end: usize) -> usize
 }
 
 /// The later of a place and of where the rest of a text begins.
+#[tactic(auto, using(crate::proofs::Text::AsciiCuts::rest_begins), unfolding(crate::specs::IsRestOf))]
 fn later(text: &str, rest: &str, place: usize) -> usize
-    requires rest { IsRestOf text.now rest.now }
+    requires rest { Spec.IsRestOf text.now rest.now }
     requires boundary { IsCharBoundary text.now place }
     ensures place { result ≡ (if nat_lt place (length text.now - length rest.now) then length text.now - length rest.now else place) }
     ensures boundary { IsCharBoundary text.now result }
@@ -56,7 +57,7 @@ macro_rules! left_by {
 
 /// What is left where one of Git's own forms stops.
 fn git_left(text: &str) -> &str
-    ensures { result.now ≡ left_by git_parts text.now text.now }
+    ensures { result.now ≡ Spec.left_by Spec.git_parts text.now text.now }
 {
     left_by!(text, rest:
         Some(rest) = Some(skip_spaces(rest).unwrap_or(rest)),
@@ -69,7 +70,7 @@ fn git_left(text: &str) -> &str
 
 /// What is left where ISO 8601 stops.
 fn iso8601_left(text: &str) -> &str
-    ensures { result.now ≡ left_by iso8601_parts text.now text.now }
+    ensures { result.now ≡ Spec.left_by Spec.iso8601_parts text.now text.now }
 {
     left_by!(text, rest:
         Some(rest) = skip_day(rest),
@@ -81,7 +82,7 @@ fn iso8601_left(text: &str) -> &str
 
 /// What is left where the strict form of ISO 8601 stops.
 fn strict_left(text: &str) -> &str
-    ensures { result.now ≡ left_by strict_parts text.now text.now }
+    ensures { result.now ≡ Spec.left_by Spec.strict_parts text.now text.now }
 {
     left_by!(text, rest:
         Some(rest) = skip_day(rest),
@@ -92,7 +93,7 @@ fn strict_left(text: &str) -> &str
 
 /// What is left where RFC 2822 stops.
 fn rfc2822_left(text: &str) -> &str
-    ensures { result.now ≡ left_by rfc2822_parts text.now text.now }
+    ensures { result.now ≡ Spec.left_by Spec.rfc2822_parts text.now text.now }
 {
     left_by!(text, rest:
         Some(rest) = Some(skip_day_name(rest).unwrap_or(rest)),
@@ -109,7 +110,7 @@ fn rfc2822_left(text: &str) -> &str
 
 /// What is left where gitoxide's form stops.
 fn gitoxide_left(text: &str) -> &str
-    ensures { result.now ≡ left_by gitoxide_parts text.now text.now }
+    ensures { result.now ≡ Spec.left_by Spec.gitoxide_parts text.now text.now }
 {
     left_by!(text, rest:
         Some(rest) = skip_named_day(rest),
@@ -126,7 +127,7 @@ fn gitoxide_left(text: &str) -> &str
 
 /// What is left where Git's default form stops.
 fn default_left(text: &str) -> &str
-    ensures { result.now ≡ left_by default_parts text.now text.now }
+    ensures { result.now ≡ Spec.left_by Spec.default_parts text.now text.now }
 {
     left_by!(text, rest:
         Some(rest) = skip_named_day(rest),
@@ -142,18 +143,18 @@ fn default_left(text: &str) -> &str
 }
 
 /// A day of the calendar, `YYYY-M-D`.
-#[tactic(auto, unfolding(crate::specs::Careful::Fronts::skip_day))]
+#[tactic(auto, unfolding(crate::specs::skip_day))]
 fn skip_day(text: &str) -> Option<&str>
-    ensures { option_copied result ≡ skip_day text.now }
+    ensures { option_copied result ≡ Spec.skip_day text.now }
 {
     let (date, rest) = read_plain_date(text)?;
     if is_date(date) { Some(rest) } else { None }
 }
 
 /// A clock of the day, `h:m:s`.
-#[tactic(auto, unfolding(crate::specs::Careful::Fronts::skip_clock))]
+#[tactic(auto, unfolding(crate::specs::skip_clock))]
 fn skip_clock(text: &str) -> Option<&str>
-    ensures { option_copied result ≡ skip_clock text.now }
+    ensures { option_copied result ≡ Spec.skip_clock text.now }
 {
     let (clock, rest) = read_clock(false, text)?;
     if clock.hour <= MAX_HOUR && clock.minute <= MAX_MINUTE && clock.second <= MAX_SECOND {
@@ -164,26 +165,26 @@ fn skip_clock(text: &str) -> Option<&str>
 }
 
 /// The name of a day, and spaces.
-#[tactic(auto, unfolding(crate::specs::Careful::Fronts::skip_named_day))]
+#[tactic(auto, unfolding(crate::specs::skip_named_day))]
 fn skip_named_day(text: &str) -> Option<&str>
-    ensures { option_copied result ≡ skip_named_day text.now }
+    ensures { option_copied result ≡ Spec.skip_named_day text.now }
 {
     skip_spaces(skip_weekday(text)?)
 }
 
 /// A day of the calendar in one of Git's own forms, and the gap after it.
-#[tactic(auto, unfolding(crate::specs::Careful::Fronts::skip_git_day))]
+#[tactic(auto, unfolding(crate::specs::skip_git_day))]
 fn skip_git_day(text: &str) -> Option<&str>
-    ensures { option_copied result ≡ skip_git_day text.now }
+    ensures { option_copied result ≡ Spec.skip_git_day text.now }
 {
     let (date, rest) = read_front(text)?;
     if is_date(date) { Some(rest) } else { None }
 }
 
 /// The clock of one of Git's own forms: digits, `h:m`, `h:m:s`, `h:m:s.digits` or `HHMMSS.digits`.
-#[tactic(auto, unfolding(crate::specs::Careful::Fronts::skip_git_clock))]
+#[tactic(auto, unfolding(crate::specs::skip_git_clock))]
 pub(crate) fn skip_git_clock(text: &str) -> Option<&str>
-    ensures { option_copied result ≡ skip_git_clock text.now }
+    ensures { option_copied result ≡ Spec.skip_git_clock text.now }
 {
     if let Some(rest) = skip_bare_fraction(text) {
         return Some(rest);
@@ -199,9 +200,9 @@ pub(crate) fn skip_git_clock(text: &str) -> Option<&str>
 }
 
 /// `HHMMSS.` and digits.
-#[tactic(auto, unfolding(crate::specs::Careful::Fronts::skip_bare_fraction))]
+#[tactic(auto, unfolding(crate::specs::skip_bare_fraction))]
 fn skip_bare_fraction(text: &str) -> Option<&str>
-    ensures { option_copied result ≡ skip_bare_fraction text.now }
+    ensures { option_copied result ≡ Spec.skip_bare_fraction text.now }
 {
     let (_, rest) = read_two_digits(text)?;
     let (_, rest) = read_two_digits(rest)?;
@@ -210,18 +211,18 @@ fn skip_bare_fraction(text: &str) -> Option<&str>
 }
 
 /// A mark, and digits.
-#[tactic(auto, unfolding(crate::specs::Careful::Fronts::skip_marked))]
+#[tactic(auto, unfolding(crate::specs::skip_marked))]
 fn skip_marked(mark: char, text: &str) -> Option<&str>
     requires { mark < 128 }
-    ensures { option_copied result ≡ skip_marked mark text.now }
+    ensures { option_copied result ≡ Spec.skip_marked mark text.now }
 {
     skip_number(skip_char(mark, text)?)
 }
 
 /// Digits.
-#[tactic(auto, using(crate::proofs::Text::AsciiCuts::first_end, crate::proofs::Text::AsciiCuts::digit_is_ascii), unfolding(crate::specs::Careful::Fronts::skip_number))]
+#[tactic(auto, using(crate::proofs::Text::AsciiCuts::first_end, crate::proofs::Text::AsciiCuts::digit_is_ascii), unfolding(crate::specs::skip_number))]
 fn skip_number(text: &str) -> Option<&str>
-    ensures { option_copied result ≡ skip_number text.now }
+    ensures { option_copied result ≡ Spec.skip_number text.now }
 {
     match text.as_bytes() {
         [digit, ..] if digit.is_ascii_digit() => Some(skip_digits(&text[1..])),

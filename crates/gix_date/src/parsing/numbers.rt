@@ -7,8 +7,7 @@ ghost use Rattle.std.specs.List.{prefix_len, list_all};
 ghost use Rattle.std.specs.Char.{is_ascii_digit};
 ghost use Rattle.std.specs.Str.{all_ascii_digits};
 ghost use Rattle.std.specs.Str.Parse.{digits_value};
-ghost use Rattle.gix_date.specs.Text.Front.{read_view};
-ghost use Rattle.gix_date.specs.Text.Numbers.{ArePairs, int_value, two_digit_value, read_two_digits, read_field, read_year};
+ghost use Rattle.gix_date.specs as Spec;
 
 use std::simd::prelude::*;
 
@@ -24,7 +23,7 @@ pub(crate) const TEN_AND_ONE: u16 = 10 * 256 + 1;
 /// The value of an optional sign and digits, where an `i64` can hold it. Nearly all numbers are short.
 #[tactic(auto, using(crate::proofs::Text::Ints::int_value_lem))]
 pub(crate) fn parse_int(word: &str) -> Option<i64>
-    ensures { result ≡ int_value word.now }
+    ensures { result ≡ Spec.int_value word.now }
 {
     if let Some(value) = fast_int(word.as_bytes()) {
         return Some(value);
@@ -36,7 +35,7 @@ pub(crate) fn parse_int(word: &str) -> Option<i64>
 #[tactic(auto, using(crate::proofs::Text::ShortDigits::minus_rest, std::proofs::lemmas::Int::ints, crate::proofs::Text::ShortDigits::bare_int))]
 #[inline(always)]
 pub(crate) fn fast_int(text: &[u8]) -> Option<i64>
-    ensures { IfSome result (λ n. int_value text.now ≡ Some n) }
+    ensures { IfSome result (λ n. Spec.int_value text.now ≡ Some n) }
 {
     match text {
         [b'-', digits @ ..] => Some(-(parse_short_digits(digits)? as i64)),
@@ -92,7 +91,7 @@ fn parse_ten_digits(digits: &[u8]) -> Option<u64>
 #[inline(always)]
 fn four_pairs(bytes: &[u8]) -> Option<[u16; 4]>
     requires { FOUR_PAIRS ≤ length bytes.now }
-    ensures { IfSome result (λ numbers. ArePairs 4 bytes.now numbers) }
+    ensures { IfSome result (λ numbers. Spec.AreDigitPairs 4 bytes.now numbers) }
 {
     let digits = u8x8::from_slice(bytes) - u8x8::splat(b'0');
     if digits.simd_ge(u8x8::splat(10)).to_bitmask() != 0 {
@@ -135,7 +134,7 @@ fn leading_digits_len(word: &str) -> usize
 /// The number that two digits write.
 #[inline(always)]
 pub(crate) fn parse_two_digits(tens: u8, ones: u8) -> Option<u8>
-    ensures value { result ≡ two_digit_value tens ones }
+    ensures value { result ≡ Spec.two_digit_value tens ones }
     ensures small { IfSome result (λ n. n < 100) }
 {
     if tens.is_ascii_digit() && ones.is_ascii_digit() {
@@ -146,10 +145,10 @@ pub(crate) fn parse_two_digits(tens: u8, ones: u8) -> Option<u8>
 }
 
 /// The number that two digits at the front write.
-#[tactic(auto, using(crate::proofs::Text::AsciiCuts::cut_pair), unfolding(crate::specs::Text::Numbers::read_two_digits))]
+#[tactic(auto, using(crate::proofs::Text::AsciiCuts::cut_pair), unfolding(crate::specs::read_two_digits))]
 #[inline(always)]
 pub(crate) fn read_two_digits(text: &str) -> Option<(u8, &str)>
-    ensures value { read_view result ≡ read_two_digits text.now }
+    ensures value { Spec.read_view result ≡ Spec.read_two_digits text.now }
     ensures small { IfSome result (λ found. found.0 < 100) }
 {
     match text.as_bytes() {
@@ -162,10 +161,10 @@ pub(crate) fn read_two_digits(text: &str) -> Option<(u8, &str)>
 }
 
 /// The number that two digits at the front write, or else one.
-#[tactic(auto, using(crate::proofs::Text::AsciiCuts::first_end, crate::proofs::Text::AsciiCuts::digit_is_ascii), unfolding(crate::specs::Text::Numbers::read_field, crate::specs::Text::Numbers::read_digit))]
+#[tactic(auto, using(crate::proofs::Text::AsciiCuts::first_end, crate::proofs::Text::AsciiCuts::digit_is_ascii), unfolding(crate::specs::read_field, crate::specs::read_digit))]
 #[inline(always)]
 pub(crate) fn read_field(text: &str) -> Option<(u8, &str)>
-    ensures value { read_view result ≡ read_field text.now }
+    ensures value { Spec.read_view result ≡ Spec.read_field text.now }
     ensures small { IfSome result (λ found. found.0 < 100) }
 {
     if let Some(found) = read_two_digits(text) {
@@ -178,10 +177,10 @@ pub(crate) fn read_field(text: &str) -> Option<(u8, &str)>
 }
 
 /// The number that four digits at the front write.
-#[tactic(auto, unfolding(crate::specs::Text::Numbers::read_year))]
+#[tactic(auto, unfolding(crate::specs::read_year))]
 #[inline(always)]
 pub(crate) fn read_year(text: &str) -> Option<(u16, &str)>
-    ensures value { read_view result ≡ read_year text.now }
+    ensures value { Spec.read_view result ≡ Spec.read_year text.now }
     ensures small { IfSome result (λ found. found.0 ≤ 9999) }
 {
     let (century, rest) = read_two_digits(text)?;

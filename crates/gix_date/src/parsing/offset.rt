@@ -1,11 +1,6 @@
 //! The fields of an offset from UTC, as header lines and dates write it. Each reader has limits of its own on them.
 ghost use Rattle.std.specs.Prelude.{◌≡◌, ◌<◌, IfSome, true, false, if◌then◌else◌, option_and_then};
-ghost use Rattle.gix_date.specs.Fields.DateOffsets.{jiff_offset, last_colon_pair, strict_offset};
-ghost use Rattle.gix_date.specs.Text.Front.{skip_char, read_view};
-ghost use Rattle.gix_date.specs.Fields.FieldTexts.{IsSign};
-ghost use Rattle.gix_date.specs.Fields.Offsets.{read_sign, last_pair, offset_fields};
-ghost use Rattle.gix_date.specs.Text.Characters.{colon};
-ghost use Rattle.gix_date.specs.Text.Numbers.{read_two_digits};
+ghost use Rattle.gix_date.specs as Spec;
 
 use crate::parsing::fields::skip_char;
 use crate::parsing::numbers::{parse_two_digits, read_two_digits};
@@ -30,12 +25,10 @@ pub(crate) struct OffsetFields {
 }
 
 impl OffsetFields {
-    ghost use Rattle.gix_date.specs.Fields.Offsets.{offset_of};
-
     /// The offset in seconds, positive east of UTC.
     #[inline(always)]
     pub(crate) fn in_seconds(self) -> OffsetInSeconds
-        ensures { result ≡ offset_of self }
+        ensures { result ≡ Spec.offset_of self }
     {
         let hours = SECONDS_PER_HOUR as u32 * u32::from(self.hours);
         let minutes = SECONDS_PER_MINUTE as u32 * u32::from(self.minutes);
@@ -51,11 +44,11 @@ impl OffsetFields {
 /// between the pairs or without.
 ///
 /// `None` for any other text.
-#[tactic(auto, unfolding(crate::specs::Fields::Offsets::offset_fields, crate::specs::Fields::DateOffsets::strict_offset))]
+#[tactic(auto, unfolding(crate::specs::offset_fields, crate::specs::strict_offset))]
 #[inline(always)]
 pub(crate) fn parse_offset_fields(colons: bool, text: &str) -> Option<OffsetFields>
-    ensures compact { colons ≡ false → result ≡ offset_fields text.now }
-    ensures strict { colons ≡ true → option_and_then jiff_offset result ≡ strict_offset text.now }
+    ensures compact { colons ≡ false → result ≡ Spec.offset_fields text.now }
+    ensures strict { colons ≡ true → option_and_then Spec.jiff_offset result ≡ Spec.strict_offset text.now }
 {
     let (sign, rest) = read_sign(text)?;
     let (hours, rest) = read_two_digits(rest)?;
@@ -70,10 +63,10 @@ pub(crate) fn parse_offset_fields(colons: bool, text: &str) -> Option<OffsetFiel
 }
 
 /// A sign at the front.
-#[tactic(auto, unfolding(crate::specs::Fields::Offsets::read_sign))]
+#[tactic(auto, unfolding(crate::specs::read_sign))]
 #[inline(always)]
 pub(crate) fn read_sign(text: &str) -> Option<(Sign, &str)>
-    ensures { read_view result ≡ read_sign text.now }
+    ensures { Spec.read_view result ≡ Spec.read_sign text.now }
 {
     if let Some(rest) = skip_char('+', text) {
         return Some((Sign::Plus, rest));
@@ -84,7 +77,7 @@ pub(crate) fn read_sign(text: &str) -> Option<(Sign, &str)>
 /// The sign of a mark.
 #[inline(always)]
 pub(crate) fn sign_of(mark: u8) -> Option<Sign>
-    ensures { IfSome result (λ sign. IsSign mark sign) }
+    ensures { IfSome result (λ sign. Spec.IsSign mark sign) }
 {
     match mark {
         b'+' => Some(Sign::Plus),
@@ -96,8 +89,8 @@ pub(crate) fn sign_of(mark: u8) -> Option<Sign>
 /// Two digits at the front, with a colon before them or without.
 #[inline(always)]
 fn read_pair(colons: bool, text: &str) -> Option<(u8, &str)>
-    ensures value { read_view result
-        ≡ (if colons then option_and_then read_two_digits (skip_char colon text.now) else read_two_digits text.now) }
+    ensures value { Spec.read_view result
+        ≡ (if colons then option_and_then Spec.read_two_digits (Spec.skip_char Spec.colon text.now) else Spec.read_two_digits text.now) }
     ensures small { IfSome result (λ found. found.0 < 100) }
 {
     if colons {
@@ -107,10 +100,10 @@ fn read_pair(colons: bool, text: &str) -> Option<(u8, &str)>
 }
 
 /// Nothing more, or such two digits.
-#[tactic(auto, unfolding(crate::specs::Fields::Offsets::last_pair, crate::specs::Fields::DateOffsets::last_colon_pair))]
+#[tactic(auto, unfolding(crate::specs::last_pair, crate::specs::last_colon_pair))]
 #[inline(always)]
 fn parse_last_pair(colons: bool, text: &str) -> Option<Option<u8>>
-    ensures { result ≡ (if colons then last_colon_pair text.now else last_pair text.now) }
+    ensures { result ≡ (if colons then Spec.last_colon_pair text.now else Spec.last_pair text.now) }
 {
     match text.as_bytes() {
         [] => Some(None),

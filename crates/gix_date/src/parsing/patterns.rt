@@ -1,17 +1,10 @@
 //! Formatted dates, as logs and other programs print them.
 ghost use Rattle.std.specs.Prelude.{◌≡◌, IfSome, [], ◌∷◌, option_map, option_copied};
-ghost use Rattle.gix_date.specs.Careful.Dates.{unzoned_day};
-ghost use Rattle.gix_date.specs.Fields.DateFields.{skip_day_name};
-ghost use Rattle.gix_date.specs.Families.Patterns.{real_day_answer, time_answer, date_answer, rfc2822_answer};
-ghost use Rattle.gix_date.specs.Fields.Layout.{Spaces, Year, Clock, Rfc2822Clock, Offset, Rfc2822Offset, LetterT, ColonOffset};
-ghost use Rattle.gix_date.specs.Families.AfterDay.{answer_after, dashed_answer, read_named_day, named_day_answer};
-ghost use Rattle.gix_date.specs.Fields.Civil.{DateFits, ClockFits};
 ghost use Rattle.jiff.specs.Words.{IsOffsetSeconds};
-ghost use Rattle.gix_date.specs.Families.Answer.{answer_of, HasJiffOffset};
-ghost use Rattle.gix_date.specs.Text.Front.{read_view};
+ghost use Rattle.gix_date.specs as Spec;
 
 use crate::civil::{ClockFields, DateFields, civil_instant, is_date, midnight_instant};
-use crate::parsing::answer::Answer;
+use crate::parsing::Answer;
 use crate::parsing::fields::skip_char;
 use crate::parsing::numbers::{read_field, read_year};
 use crate::parsing::patterns::fields::{
@@ -22,14 +15,14 @@ use crate::time::{MAX_OFFSET_IN_SECONDS, OffsetInSeconds, Time};
 
 pub(crate) mod fields;
 pub(crate) mod offset;
-pub(crate) mod usual;
 
 /// Reads a date that begins with a day: the day alone, `2018-12-24`, which is its midnight in UTC; ISO 8601 as Git
 /// prints it, `2022-08-18 12:45:06 +0800`; or its strict form, `2022-08-18T12:45:06+08:00`. The day is read once for
 /// all three.
+#[tactic(auto, using(crate::proofs::Fields::AfterDay::plain_days))]
 pub(crate) fn parse_dashed(text: &str) -> Option<Answer<'static>>
-    ensures answer { option_map answer_of result ≡ dashed_answer text.now }
-    ensures offset_fits { IfSome result HasJiffOffset }
+    ensures answer { option_map Spec.answer_of result ≡ Spec.dashed_answer text.now }
+    ensures offset_fits { IfSome result Spec.HasJiffOffset }
 {
     let (date, rest) = read_plain_date(text)?;
     if rest.is_empty() {
@@ -42,9 +35,9 @@ pub(crate) fn parse_dashed(text: &str) -> Option<Answer<'static>>
 }
 
 /// The midnight in UTC of a text that is a day alone.
-#[tactic(auto, unfolding(crate::specs::Careful::Dates::unzoned_day))]
+#[tactic(auto, unfolding(crate::specs::unzoned_day))]
 pub(crate) fn parse_unzoned_day(text: &str) -> Option<Time>
-    ensures day { result ≡ unzoned_day text.now }
+    ensures day { result ≡ Spec.unzoned_day text.now }
     ensures offset_fits { IfSome result (λ t. IsOffsetSeconds t.offset) }
 {
     let (date, rest) = read_plain_date(text)?;
@@ -59,9 +52,9 @@ pub(crate) fn parse_unzoned_day(text: &str) -> Option<Time>
 #[tactic(auto, using(jiff_core::proofs::SignedLemmas::signed_arith, crate::proofs::Text::Ints::held, crate::proofs::Fields::AfterDay::day_with_instant))]
 #[inline(always)]
 fn real_day_answer(date: DateFields) -> Option<Answer<'static>>
-    requires { DateFits date }
-    ensures answer { option_map answer_of result ≡ answer_after [] real_day_answer date [] }
-    ensures offset_fits { IfSome result HasJiffOffset }
+    requires { Spec.DateFits date }
+    ensures answer { option_map Spec.answer_of result ≡ Spec.answer_after [] Spec.real_day_answer date [] }
+    ensures offset_fits { IfSome result Spec.HasJiffOffset }
 {
     if let Some(seconds) = midnight_instant(date) {
         return Some(Answer::Absolute(Time::new(seconds, 0)));
@@ -74,10 +67,10 @@ fn real_day_answer(date: DateFields) -> Option<Answer<'static>>
 
 /// Reads an RFC 2822 date, `Thu, 18 Aug 2022 12:45:06 +0800`: the day's name and the seconds may be left
 /// out, and a zone may be named.
-#[tactic(auto, unfolding(crate::specs::Families::Patterns::rfc2822_answer))]
+#[tactic(auto, unfolding(crate::specs::rfc2822_answer))]
 pub(crate) fn parse_rfc2822(text: &str) -> Option<Answer<'static>>
-    ensures answer { option_map answer_of result ≡ rfc2822_answer text.now }
-    ensures offset_fits { IfSome result HasJiffOffset }
+    ensures answer { option_map Spec.answer_of result ≡ Spec.rfc2822_answer text.now }
+    ensures offset_fits { IfSome result Spec.HasJiffOffset }
 {
     let date = skip_day_name(text).unwrap_or(text);
     let (day, rest) = read_field(date)?;
@@ -89,10 +82,10 @@ pub(crate) fn parse_rfc2822(text: &str) -> Option<Answer<'static>>
 /// What an RFC 2822 date answers, after its year.
 #[inline(always)]
 fn rfc2822_after(date: DateFields, rest: &str) -> Option<Answer<'static>>
-    requires { DateFits date }
-    ensures answer { option_map answer_of result
-        ≡ answer_after (Rfc2822Clock ∷ Spaces ∷ Rfc2822Offset ∷ []) time_answer date rest.now }
-    ensures offset_fits { IfSome result HasJiffOffset }
+    requires { Spec.DateFits date }
+    ensures answer { option_map Spec.answer_of result
+        ≡ Spec.answer_after (Spec.Rfc2822Clock ∷ Spec.Spaces ∷ Spec.Rfc2822Offset ∷ []) Spec.time_answer date rest.now }
+    ensures offset_fits { IfSome result Spec.HasJiffOffset }
 {
     let (clock, rest) = read_clock(true, rest)?;
     let offset = parse_rfc2822_zone(skip_spaces(rest)?)?;
@@ -100,10 +93,10 @@ fn rfc2822_after(date: DateFields, rest: &str) -> Option<Answer<'static>>
 }
 
 /// What stands after a day's name, a comma and spaces.
-#[tactic(auto, unfolding(crate::specs::Fields::DateFields::skip_day_name))]
+#[tactic(auto, unfolding(crate::specs::skip_day_name))]
 #[inline(always)]
 pub(crate) fn skip_day_name(text: &str) -> Option<&str>
-    ensures { option_copied result ≡ skip_day_name text.now }
+    ensures { option_copied result ≡ Spec.skip_day_name text.now }
 {
     skip_spaces(skip_char(',', skip_weekday(text)?)?)
 }
@@ -111,10 +104,10 @@ pub(crate) fn skip_day_name(text: &str) -> Option<&str>
 /// What an ISO 8601 date answers as Git prints it, after its day.
 #[inline(always)]
 fn iso8601_after(date: DateFields, rest: &str) -> Option<Answer<'static>>
-    requires { DateFits date }
-    ensures answer { option_map answer_of result
-        ≡ answer_after (Spaces ∷ Clock ∷ Spaces ∷ Offset ∷ []) time_answer date rest.now }
-    ensures offset_fits { IfSome result HasJiffOffset }
+    requires { Spec.DateFits date }
+    ensures answer { option_map Spec.answer_of result
+        ≡ Spec.answer_after (Spec.Spaces ∷ Spec.Clock ∷ Spec.Spaces ∷ Spec.Offset ∷ []) Spec.time_answer date rest.now }
+    ensures offset_fits { IfSome result Spec.HasJiffOffset }
 {
     let (clock, rest) = read_clock(false, skip_spaces(rest)?)?;
     let offset = parse_date_offset(false, skip_spaces(rest)?)?;
@@ -124,10 +117,10 @@ fn iso8601_after(date: DateFields, rest: &str) -> Option<Answer<'static>>
 /// What a strict ISO 8601 date answers, after its day.
 #[inline(always)]
 fn iso8601_strict_after(date: DateFields, rest: &str) -> Option<Answer<'static>>
-    requires { DateFits date }
-    ensures answer { option_map answer_of result
-        ≡ answer_after (LetterT ∷ Clock ∷ ColonOffset ∷ []) time_answer date rest.now }
-    ensures offset_fits { IfSome result HasJiffOffset }
+    requires { Spec.DateFits date }
+    ensures answer { option_map Spec.answer_of result
+        ≡ Spec.answer_after (Spec.LetterT ∷ Spec.Clock ∷ Spec.ColonOffset ∷ []) Spec.time_answer date rest.now }
+    ensures offset_fits { IfSome result Spec.HasJiffOffset }
 {
     let (clock, rest) = read_clock(false, skip_char('T', rest)?)?;
     let offset = parse_date_offset(true, rest)?;
@@ -136,9 +129,10 @@ fn iso8601_strict_after(date: DateFields, rest: &str) -> Option<Answer<'static>>
 
 /// Reads a date that begins with a day of the week, a month and a day: as gitoxide prints it, `Thu Aug 18 2022 12:45:06
 /// +0800`; or as Git does by default, `Thu Aug 18 12:45:06 2022 +0800`. These three are read once for both.
+#[tactic(auto, using(crate::proofs::Fields::AfterDay::named_days))]
 pub(crate) fn parse_named_day(text: &str) -> Option<Answer<'static>>
-    ensures answer { option_map answer_of result ≡ named_day_answer text.now }
-    ensures offset_fits { IfSome result HasJiffOffset }
+    ensures answer { option_map Spec.answer_of result ≡ Spec.named_day_answer text.now }
+    ensures offset_fits { IfSome result Spec.HasJiffOffset }
 {
     let (date, rest) = read_named_day(text)?;
     if let Some(answer) = gitoxide_after(date, rest) {
@@ -148,11 +142,11 @@ pub(crate) fn parse_named_day(text: &str) -> Option<Answer<'static>>
 }
 
 /// A day of the week, a month by its name, a day, and the spaces after each, with the year left at 0.
-#[tactic(auto, unfolding(crate::specs::Families::AfterDay::read_named_day))]
+#[tactic(auto, unfolding(crate::specs::read_named_day))]
 #[inline(always)]
 fn read_named_day(text: &str) -> Option<(DateFields, &str)>
-    ensures value { read_view result ≡ read_named_day text.now }
-    ensures fits { IfSome result (λ found. DateFits found.0) }
+    ensures value { Spec.read_view result ≡ Spec.read_named_day text.now }
+    ensures fits { IfSome result (λ found. Spec.DateFits found.0) }
 {
     let (month, rest) = read_month(skip_spaces(skip_weekday(text)?)?)?;
     let (day, rest) = read_field(skip_spaces(rest)?)?;
@@ -164,10 +158,10 @@ fn read_named_day(text: &str) -> Option<(DateFields, &str)>
 /// What a date answers as gitoxide prints it, after its month and day. After the year it goes on as ISO 8601 does.
 #[inline(always)]
 fn gitoxide_after(date: DateFields, rest: &str) -> Option<Answer<'static>>
-    requires { DateFits date }
-    ensures answer { option_map answer_of result
-        ≡ answer_after (Year ∷ Spaces ∷ Clock ∷ Spaces ∷ Offset ∷ []) time_answer date rest.now }
-    ensures offset_fits { IfSome result HasJiffOffset }
+    requires { Spec.DateFits date }
+    ensures answer { option_map Spec.answer_of result
+        ≡ Spec.answer_after (Spec.Year ∷ Spec.Spaces ∷ Spec.Clock ∷ Spec.Spaces ∷ Spec.Offset ∷ []) Spec.time_answer date rest.now }
+    ensures offset_fits { IfSome result Spec.HasJiffOffset }
 {
     let (year, rest) = read_year(rest)?;
     iso8601_after(DateFields { year, ..date }, rest)
@@ -176,10 +170,10 @@ fn gitoxide_after(date: DateFields, rest: &str) -> Option<Answer<'static>>
 /// What a date answers as Git prints it by default, after its month and day.
 #[inline(always)]
 fn default_after(date: DateFields, rest: &str) -> Option<Answer<'static>>
-    requires { DateFits date }
-    ensures answer { option_map answer_of result
-        ≡ answer_after (Clock ∷ Spaces ∷ Year ∷ Spaces ∷ Offset ∷ []) time_answer date rest.now }
-    ensures offset_fits { IfSome result HasJiffOffset }
+    requires { Spec.DateFits date }
+    ensures answer { option_map Spec.answer_of result
+        ≡ Spec.answer_after (Spec.Clock ∷ Spec.Spaces ∷ Spec.Year ∷ Spec.Spaces ∷ Spec.Offset ∷ []) Spec.time_answer date rest.now }
+    ensures offset_fits { IfSome result Spec.HasJiffOffset }
 {
     let (clock, rest) = read_clock(false, rest)?;
     let (year, rest) = read_year(skip_spaces(rest)?)?;
@@ -188,18 +182,18 @@ fn default_after(date: DateFields, rest: &str) -> Option<Answer<'static>>
 }
 
 /// What a formatted date answers, where there is such an instant.
-#[tactic(auto, unfolding(crate::specs::Families::Patterns::date_answer))]
+#[tactic(auto, unfolding(crate::specs::date_answer))]
 #[inline(always)]
 fn date_answer(
     date: DateFields,
     clock: ClockFields,
     offset: OffsetInSeconds,
 ) -> Option<Answer<'static>>
-    requires date { DateFits date }
-    requires clock { ClockFits clock }
+    requires date { Spec.DateFits date }
+    requires clock { Spec.ClockFits clock }
     requires offset { IsOffsetSeconds offset }
-    ensures answer { option_map answer_of result ≡ date_answer date clock offset }
-    ensures offset_fits { IfSome result HasJiffOffset }
+    ensures answer { option_map Spec.answer_of result ≡ Spec.date_answer date clock offset }
+    ensures offset_fits { IfSome result Spec.HasJiffOffset }
 {
     let seconds = civil_instant(date, clock, offset)?;
     if offset.unsigned_abs() > MAX_OFFSET_IN_SECONDS {

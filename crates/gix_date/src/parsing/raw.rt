@@ -1,12 +1,12 @@
 //! The raw form of a date, as a commit header has it, read strictly.
 ghost use Rattle.std.specs.Prelude.{◌≡◌, IfSome, Some};
 ghost use Rattle.jiff.specs.Words.{IsOffsetSeconds};
-ghost use Rattle.gix_date.specs.Families.Raw.{raw_time_by, raw_offset_by, allows};
+ghost use Rattle.gix_date.specs as Spec;
 
 use crate::parsing::fast::fast_fields;
+use crate::parsing::fields::first_words;
 use crate::parsing::numbers::parse_int;
 use crate::parsing::offset::{OffsetFields, parse_offset_fields};
-use crate::parsing::space_words::first_words;
 use crate::time::{MAX_HOUR, MAX_MINUTE, OffsetInSeconds, Time};
 
 /// The most hours of a raw offset, as gix-date has it.
@@ -32,7 +32,7 @@ pub enum RawOffsets {
 impl RawOffsets {
     /// Whether the rule allows these fields.
     fn allows(self, fields: OffsetFields) -> bool
-        ensures { result ≡ allows self fields }
+        ensures { result ≡ Spec.allows self fields }
     {
         match self {
             RawOffsets::Quarter => {
@@ -54,9 +54,9 @@ impl RawOffsets {
 /// each of the two, and nothing else.
 ///
 /// `None` for any other text.
-#[tactic(auto, unfolding(crate::specs::Families::Raw::raw_time_by))]
+#[tactic(auto, unfolding(crate::specs::raw_time_by))]
 pub(crate) fn parse_raw(input: &str, raw: RawOffsets) -> Option<Time>
-    ensures time { result ≡ raw_time_by (allows raw) input.now }
+    ensures time { result ≡ Spec.raw_time_by (Spec.allows raw) input.now }
     ensures offset_fits { IfSome result (λ t. IsOffsetSeconds t.offset) }
 {
     let (first, second) = first_words(input)?;
@@ -71,7 +71,7 @@ pub(crate) fn parse_raw(input: &str, raw: RawOffsets) -> Option<Time>
 #[tactic(auto, using(std::proofs::lemmas::Int::ints, crate::proofs::Fast::FastHeaders::plain_raw, crate::proofs::Fields::FieldsTaken::time_at))]
 #[inline(always)]
 pub(crate) fn fast_raw(input: &str, raw: RawOffsets) -> Option<Time>
-    ensures time { IfSome result (λ t. raw_time_by (allows raw) input.now ≡ Some t) }
+    ensures time { IfSome result (λ t. Spec.raw_time_by (Spec.allows raw) input.now ≡ Some t) }
     ensures offset_fits { IfSome result (λ t. IsOffsetSeconds t.offset) }
 {
     let (seconds, fields) = fast_fields(input)?;
@@ -83,9 +83,9 @@ pub(crate) fn fast_raw(input: &str, raw: RawOffsets) -> Option<Time>
 }
 
 /// The offset of a raw text.
-#[tactic(auto, unfolding(crate::specs::Families::Raw::raw_offset_by))]
+#[tactic(auto, unfolding(crate::specs::raw_offset_by))]
 fn parse_raw_offset(word: &str, raw: RawOffsets) -> Option<OffsetInSeconds>
-    ensures offset { result ≡ raw_offset_by (allows raw) word.now }
+    ensures offset { result ≡ Spec.raw_offset_by (Spec.allows raw) word.now }
     ensures offset_fits { IfSome result (λ offset. IsOffsetSeconds offset) }
 {
     let fields = parse_offset_fields(false, word)?;

@@ -1,6 +1,6 @@
 //! The shape of a text, which selects the families that are tried.
 ghost use Rattle.std.specs.Prelude.{◌≡◌};
-ghost use Rattle.gix_date.specs.Families.Shapes.{begins_with_at, are_two_digits, are_four_digits, begins_with_year, begins_with_dotted_day, begins_with_compact_day, begins_with_letter, begins_with_count, letter_shape, shape_of};
+ghost use Rattle.gix_date.specs as Spec;
 
 use crate::parsing::numbers::parse_int;
 
@@ -29,10 +29,10 @@ pub(crate) enum Shape {
 
 impl Shape {
     /// The shape of a text.
-    #[tactic(auto, unfolding(crate::specs::Families::Shapes::shape_of, crate::specs::Families::Shapes::begins_with_at, crate::specs::Families::Shapes::begins_with_letter, crate::specs::Families::Shapes::letter_shape))]
+    #[tactic(auto, unfolding(crate::specs::shape_of, crate::specs::begins_with_at, crate::specs::begins_with_letter, crate::specs::letter_shape))]
     #[inline(always)]
     pub(crate) fn of(text: &str) -> Shape
-        ensures { result ≡ shape_of text.now }
+        ensures { result ≡ Spec.shape_of text.now }
     {
         let bytes = text.as_bytes();
         match bytes {
@@ -57,10 +57,10 @@ impl Shape {
 }
 
 /// Whether a text begins with four digits and `-`.
-#[tactic(auto, unfolding(crate::specs::Families::Shapes::begins_with_year))]
+#[tactic(auto, unfolding(crate::specs::begins_with_year))]
 #[inline(always)]
 fn begins_with_year(text: &[u8]) -> bool
-    ensures { result ≡ begins_with_year text.now }
+    ensures { result ≡ Spec.begins_with_year text.now }
 {
     match text {
         [a, b, c, d, mark, ..] => are_four_digits(*a, *b, *c, *d) && *mark == b'-',
@@ -69,10 +69,10 @@ fn begins_with_year(text: &[u8]) -> bool
 }
 
 /// Whether a text begins with four digits, `.`, two digits and `.`.
-#[tactic(auto, unfolding(crate::specs::Families::Shapes::begins_with_dotted_day))]
+#[tactic(auto, unfolding(crate::specs::begins_with_dotted_day))]
 #[inline(always)]
 fn begins_with_dotted_day(text: &[u8]) -> bool
-    ensures { result ≡ begins_with_dotted_day text.now }
+    ensures { result ≡ Spec.begins_with_dotted_day text.now }
 {
     match text {
         [y0, y1, y2, y3, first, m0, m1, second, ..] => {
@@ -86,10 +86,10 @@ fn begins_with_dotted_day(text: &[u8]) -> bool
 }
 
 /// Whether a text begins with eight digits and `T`.
-#[tactic(auto, unfolding(crate::specs::Families::Shapes::begins_with_compact_day))]
+#[tactic(auto, unfolding(crate::specs::begins_with_compact_day))]
 #[inline(always)]
 fn begins_with_compact_day(text: &[u8]) -> bool
-    ensures { result ≡ begins_with_compact_day text.now }
+    ensures { result ≡ Spec.begins_with_compact_day text.now }
 {
     match text {
         [y0, y1, y2, y3, m0, m1, d0, d1, mark, ..] => {
@@ -103,10 +103,10 @@ fn begins_with_compact_day(text: &[u8]) -> bool
 
 /// Whether a text of three bytes or more begins with one or two digits and a space, as `2 weeks ago` does. No form of
 /// Git's own begins so.
-#[tactic(auto, unfolding(crate::specs::Families::Shapes::begins_with_count))]
+#[tactic(auto, unfolding(crate::specs::begins_with_count))]
 #[inline(always)]
 fn begins_with_count(text: &[u8]) -> bool
-    ensures { result ≡ begins_with_count text.now }
+    ensures { result ≡ Spec.begins_with_count text.now }
 {
     match text {
         [a, b, c, ..] => a.is_ascii_digit() && (*b == b' ' || b.is_ascii_digit() && *c == b' '),
@@ -116,14 +116,14 @@ fn begins_with_count(text: &[u8]) -> bool
 
 #[inline(always)]
 fn are_four_digits(a: u8, b: u8, c: u8, d: u8) -> bool
-    ensures { result ≡ are_four_digits a b c d }
+    ensures { result ≡ Spec.are_four_digits a b c d }
 {
     are_two_digits(a, b) && are_two_digits(c, d)
 }
 
 #[inline(always)]
 fn are_two_digits(a: u8, b: u8) -> bool
-    ensures { result ≡ are_two_digits a b }
+    ensures { result ≡ Spec.are_two_digits a b }
 {
     a.is_ascii_digit() && b.is_ascii_digit()
 }

@@ -5,29 +5,19 @@
 //! an hour up to 14:45; [`parse_with`](crate::parse_with) reads those of whole minutes up to 23:59. The day
 //! `9999-12-31`, which [`SHORT`] prints of 253402207200 at +0200, is refused by `DateConversion`: its midnight in UTC
 //! is no instant.
-ghost use Rattle.std.specs.Prelude.{◌≡◌, ◌↔◌, ◌⊎◌, Some, Err, map, option_map, IsTrue, IsSome, IfSome};
-ghost use Rattle.jiff.specs.Words.{plain_zoned};
-ghost use Rattle.jiff.specs.ZonedText.{zoned_parts};
-ghost use Rattle.jiff_core.specs.Date.{weekday_of};
-ghost use Rattle.jiff_strtime.specs.Text.{parts_of};
-ghost use Rattle.jiff_core.specs.declared.error.Error.TheVariants as jiff_errors;
-ghost use Rattle.gix_date.specs.Header.Text.{header_text};
-ghost use Rattle.gix_date.specs.Text.Numbers.{decimal_text};
-ghost use Rattle.gix_date.specs.Printing.Formats.{IsTextOf, IsPatternText, Prints, PrintsOrSeconds, PrintsPattern, PrintsPatternOrSeconds, PrintsHeader, PrintsSeconds, PrintsAt};
-ghost use Rattle.gix_date.specs.Printing.FormatBuf.{HasBufText, HasNamedText};
-ghost use Rattle.gix_date.specs.Printing.NamedFormats.{format_named, format_numbered, format_row, named_formats, printed_by};
+ghost use Rattle.std.specs.Prelude.{◌≡◌, ◌↔◌, Some, Err, map, option_map, IsTrue, IsSome, IfSome};
 ghost use Rattle.gix_date.specs.declared.error.Error.TheVariants as errors;
+ghost use Rattle.gix_date.specs as Spec;
 
 use crate::error::Error;
 use crate::names::value_named;
 pub use crate::time::named::FormatBuf;
 use crate::time::named::{
     DEFAULT_PATTERN, GIT_RFC2822_PATTERN, GITOXIDE_PATTERN, ISO8601_PATTERN,
-    ISO8601_STRICT_PATTERN, RFC2822_PATTERN, SHORT_PATTERN, copy_text, named_text, short_buf,
+    ISO8601_STRICT_PATTERN, RFC2822_PATTERN, SHORT_PATTERN, copy_text, named_text, pattern_text,
+    short_buf,
 };
 use crate::time::{Time, header_text};
-use jiff::Zoned;
-use jiff::fmt::strtime::{BrokenDownTime, Config, to_string};
 use std::alloc::Global;
 
 /// What a time is printed as.
@@ -125,72 +115,26 @@ static NAMED_FORMATS: [(&str, Format); 9] = [
 
 /// The named formats, each beside its name, in the order of their numbers: that of [`UNIX`] is 0.
 pub fn named_formats() -> &'static [(&'static str, Format)]
-    ensures { map format_row result.now ≡ named_formats }
+    ensures { map Spec.format_row result.now ≡ Spec.named_formats }
 {
     &NAMED_FORMATS
 }
 
 /// The named format of this name, as `ISO8601`: letter case matters. `None` where none is called so.
+#[tactic(auto, using(crate::proofs::Printing::FormatTable::named_is))]
 pub fn format_named(name: &str) -> Option<Format>
-    ensures { option_map printed_by result ≡ format_named name.now }
+    ensures { option_map Spec.printed_by result ≡ Spec.format_named name.now }
 {
     value_named(named_formats(), name)
 }
 
 /// The named format of this number. `None` where none has it.
+#[tactic(auto, using(crate::proofs::Printing::FormatTable::at_place))]
 pub fn format_numbered(number: usize) -> Option<Format>
-    ensures { option_map printed_by result ≡ format_numbered number }
+    ensures { option_map Spec.printed_by result ≡ Spec.format_numbered number }
 {
     let row = *named_formats().get(number)?;
     Some(row.1)
-}
-
-/// Maps a fault of `jiff`'s printer.
-fn printing_fault(error: jiff::Error) -> Error
-    ensures { ((error ≡ jiff_errors.OutOfMemory) × (result ≡ errors.Memory))
-        ⊎ ((error ≡ jiff_errors.OutOfMemory → ⊥) × (result ≡ errors.Pattern)) }
-{
-    match error {
-        jiff::Error::OutOfMemory => Error::Memory,
-        _ => Error::Pattern,
-    }
-}
-
-/// The parts that are printed, with the abbreviation and the name of the zone.
-fn broken_down_time<'t>(
-    moment: &Zoned<'_>,
-    abbreviation: &'t str,
-    name: Option<&'t str>,
-) -> BrokenDownTime<'t>
-    ensures { parts_of result
-        ≡ record (zoned_parts (plain_zoned moment.now).datetime (plain_zoned moment.now).offset
-        (plain_zoned moment.now).timestamp
-        abbreviation.now (option_map (λ s. s.now) name.entry))
-        { weekday = Some (weekday_of (plain_zoned moment.now).datetime.date) } }
-{
-    let plain = moment.to_plain();
-    BrokenDownTime {
-        offset: Some(plain.offset),
-        weekday: Some(moment.weekday()),
-        timestamp: Some(plain.timestamp),
-        tz_abbreviation: Some(abbreviation),
-        iana: name,
-        ..BrokenDownTime::from_datetime(plain.datetime)
-    }
-}
-
-/// What `jiff`'s strict printer shows by a pattern. It is given the day of the week, since it promises none by itself.
-fn pattern_text(alloc: Global, pattern: &str, moment: &Zoned<'_>) -> Result<String, Error>
-    ensures { PrintsAt pattern.now (plain_zoned moment.now) result }
-{
-    let plain = moment.to_plain();
-    let info = plain.time_zone.to_offset_info(plain.timestamp);
-    let (abbreviation, name) = (info.abbreviation.as_str(), plain.time_zone.iana_name());
-    let parts = broken_down_time(moment, abbreviation, name);
-    match to_string(alloc, Config::new(), pattern.as_bytes(), &parts) {
-        Ok(text) => Ok(text),
-        Err(error) => Err(printing_fault(error)),
-    }
 }
 
 fn is_memory(error: &Error) -> bool
@@ -207,7 +151,7 @@ impl Time {
     /// before any memory is taken; [`Error::Pattern`] where the printer refuses the pattern, or what it shows is no
     /// UTF-8; [`Error::Memory`] where memory for the text is refused.
     pub fn format(&self, alloc: Global, format: Format) -> Result<String, Error>
-        ensures { Prints self.now format result }
+        ensures { Spec.Prints self.now format result }
     {
         match format {
             Format::Custom(custom) => self.format_by_pattern(alloc, custom.pattern),
@@ -221,7 +165,7 @@ impl Time {
     ///
     /// The one refusal is [`Error::Memory`], where memory for the text is refused.
     pub fn format_or_unix(&self, alloc: Global, format: Format) -> Result<String, Error>
-        ensures { PrintsOrSeconds self.now format result }
+        ensures { Spec.PrintsOrSeconds self.now format result }
     {
         match self.format(alloc, format) {
             Ok(text) => Ok(text),
@@ -234,7 +178,7 @@ impl Time {
     ///
     /// The refusals are those of [`Time::format`] by this pattern.
     pub fn format_by_pattern(&self, alloc: Global, pattern: &str) -> Result<String, Error>
-        ensures { PrintsPattern self.now pattern.now result }
+        ensures { Spec.PrintsPattern self.now pattern.now result }
     {
         if let Some(text) = self.format_by_pattern_to_buf(pattern) {
             return copy_text(alloc, text.as_str());
@@ -247,7 +191,7 @@ impl Time {
     ///
     /// The one refusal is [`Error::Memory`], where memory for the text is refused.
     pub fn format_by_pattern_or_unix(&self, alloc: Global, pattern: &str) -> Result<String, Error>
-        ensures { PrintsPatternOrSeconds self.now pattern.now result }
+        ensures { Spec.PrintsPatternOrSeconds self.now pattern.now result }
     {
         match self.format_by_pattern(alloc, pattern) {
             Ok(text) => Ok(text),
@@ -264,8 +208,8 @@ impl Time {
     /// text. Takes no memory.
     #[inline(always)]
     pub fn format_to_buf(self, format: Format) -> Option<FormatBuf>
-        ensures text { IfSome result (λ text. IsTextOf self format text.bytes) }
-        ensures succeeds { IsSome result ↔ HasBufText self format }
+        ensures text { IfSome result (λ text. Spec.IsTextOf self format text.bytes) }
+        ensures succeeds { IsSome result ↔ Spec.HasBufText self format }
     {
         match format {
             Format::Custom(custom) => self.format_by_pattern_to_buf(custom.pattern),
@@ -278,37 +222,35 @@ impl Time {
     /// this pattern. Takes no memory.
     #[inline(always)]
     pub fn format_by_pattern_to_buf(self, pattern: &str) -> Option<FormatBuf>
-        ensures text { IfSome result (λ text. IsPatternText self pattern.now text.bytes) }
-        ensures succeeds { IsSome result ↔ HasNamedText self pattern.now }
+        ensures text { IfSome result (λ text. Spec.IsPatternText self pattern.now text.bytes) }
+        ensures succeeds { IsSome result ↔ Spec.HasNamedText self pattern.now }
     {
         named_text(pattern, self)
     }
 
     fn unix_text(self) -> FormatBuf
-        ensures { result.bytes ≡ decimal_text self.seconds }
+        ensures { result.bytes ≡ Spec.decimal_text self.seconds }
     {
         short_buf(itoa::Buffer::new().format(self.seconds))
     }
 
     fn raw_text(self) -> Option<FormatBuf>
-        ensures { option_map (λ text. text.bytes) result ≡ header_text self }
+        ensures { option_map (λ text. text.bytes) result ≡ Spec.header_text self }
     {
         let text = header_text(self)?;
         Some(short_buf(text.as_str()))
     }
 
     fn unix_seconds(self, alloc: Global) -> Result<String, Error>
-        ensures { PrintsSeconds self result }
+        ensures { Spec.PrintsSeconds self result }
     {
         copy_text(alloc, self.unix_text().as_str())
     }
 
     fn header(self, alloc: Global) -> Result<String, Error>
-        ensures { PrintsHeader self result }
+        ensures { Spec.PrintsHeader self result }
     {
-        let Some(text) = header_text(self) else {
-            return Err(Error::OffsetTooWide);
-        };
+        let text = header_text(self).ok_or(Error::OffsetTooWide)?;
         copy_text(alloc, text.as_str())
     }
 }

@@ -1,11 +1,12 @@
-//! Fast path for printing: writes the text of a named format without `jiff`.
-ghost use Rattle.std.specs.Prelude.{◌≡◌, ◌≤◌, ◌<◌, ◌*◌, ◌↔◌, [], length, take, IsTrue, IsSome, IfSome, IfOk, IfErr, string_bytes};
-ghost use Rattle.gix_date.specs.Printing.Formats.{IsPatternText};
-ghost use Rattle.gix_date.specs.Printing.FormatBuf.{IsNamedPattern, HasNamedText};
-ghost use Rattle.gix_date.specs.Printing.LocalClocks.{clock_of, HasFourDigitFields, IsShowable};
-ghost use Rattle.gix_date.specs.Printing.NamedTexts.{IsShownByAll};
-ghost use Rattle.gix_date.specs.Fields.Zoned.{IsConvertible};
+//! The text of a time by a pattern: that of a named format without `jiff`, and any other by its printer.
+ghost use Rattle.std.specs.Prelude.{◌≡◌, ◌≤◌, ◌<◌, ◌*◌, ◌↔◌, ◌⊎◌, [], Some, option_map, length, take, IsTrue, IsSome, IfSome, IfOk, IfErr, string_bytes};
+ghost use Rattle.jiff.specs.Words.{plain_zoned};
+ghost use Rattle.jiff.specs.ZonedText.{zoned_parts};
+ghost use Rattle.jiff_core.specs.Date.{weekday_of};
+ghost use Rattle.jiff_strtime.specs.Text.{parts_of};
+ghost use Rattle.jiff_core.specs.declared.error.Error.TheVariants as jiff_errors;
 ghost use Rattle.gix_date.specs.declared.error.Error.TheVariants as errors;
+ghost use Rattle.gix_date.specs as Spec;
 
 use crate::clock::{
     Clock, local_seconds, push_date, push_default, push_git_rfc2822, push_gitoxide, push_iso8601,
@@ -17,6 +18,8 @@ use crate::time::{
     SecondsSinceUnixEpoch, Time,
 };
 use arrayvec::ArrayString;
+use jiff::Zoned;
+use jiff::fmt::strtime::{BrokenDownTime, Config, to_string};
 use std::alloc::Global;
 use std::simd::prelude::*;
 
@@ -58,7 +61,7 @@ pub type FormatBuf = ArrayString<MAX_NAMED_LEN>;
 
 /// Whether the time converts, its own clock shows a year of four digits, and its offset is whole minutes.
 fn has_named_clock(time: Time) -> bool
-    ensures { IsTrue result ↔ (IsConvertible time × HasFourDigitFields time) }
+    ensures { IsTrue result ↔ (Spec.IsConvertible time × Spec.HasFourDigitFields time) }
 {
     let distance = time.offset.unsigned_abs();
     if distance > MAX_ZONE_OFFSET || distance % SECONDS_PER_MINUTE as u32 != 0 {
@@ -73,7 +76,6 @@ fn has_named_clock(time: Time) -> bool
 
 impl Time {
     ghost use Rattle.std.specs.Prelude.{◌↔◌, IsTrue};
-    ghost use Rattle.gix_date.specs.Printing.ReadingBack.{RoundTrips};
 
     /// Whether [`Time::to_zoned`] accepts this time, its own clock shows a year from 1000 to 9999, and its offset is whole
     /// minutes within 23:59.
@@ -81,7 +83,7 @@ impl Time {
     /// If so, [`parse`](crate::parse) reads this time back from what each of the six named formats with a clock prints
     /// of it ([`laws::read_back`](crate::laws::read_back)). No memory is taken.
     pub fn round_trips(self) -> bool
-        ensures { IsTrue result ↔ RoundTrips self }
+        ensures { IsTrue result ↔ Spec.RoundTrips self }
     {
         self.offset.unsigned_abs() <= MAX_OFFSET_IN_SECONDS && has_named_clock(self)
     }
@@ -92,9 +94,9 @@ impl Time {
 #[inline(always)]
 fn push_named(text: &mut FormatBuf, pattern: &str, time: Time) -> Option<()>
     requires empty { text.old.bytes ≡ [] }
-    requires showable { IsShowable time }
-    ensures shown { IfSome result (λ _. IsShownByAll pattern.now (clock_of time) text.new.bytes) }
-    ensures succeeds { IsSome result ↔ IsNamedPattern pattern.now }
+    requires showable { Spec.IsShowable time }
+    ensures shown { IfSome result (λ _. Spec.IsShownByAll pattern.now (Spec.clock_of time) text.new.bytes) }
+    ensures succeeds { IsSome result ↔ Spec.IsNamedPattern pattern.now }
 {
     if pattern.len() <= NUMBERS_LEN {
         push_numbers(text, pattern, Clock::of(time))
@@ -104,12 +106,13 @@ fn push_named(text: &mut FormatBuf, pattern: &str, time: Time) -> Option<()>
 }
 
 /// Appends what a named pattern without names shows by a clock.
+#[tactic(auto, using(crate::proofs::Printing::ShownTexts::numbers_shown))]
 #[inline(always)]
 fn push_numbers(text: &mut FormatBuf, pattern: &str, t: Clock) -> Option<()>
     requires empty { text.old.bytes ≡ [] }
     requires short { length pattern.now ≤ NUMBERS_LEN }
-    ensures shown { IfSome result (λ _. IsShownByAll pattern.now t text.new.bytes) }
-    ensures succeeds { IsSome result ↔ IsNamedPattern pattern.now }
+    ensures shown { IfSome result (λ _. Spec.IsShownByAll pattern.now t text.new.bytes) }
+    ensures succeeds { IsSome result ↔ Spec.IsNamedPattern pattern.now }
 {
     if is_pattern(pattern, ISO8601_PATTERN) {
         push_iso8601(text, t);
@@ -128,8 +131,8 @@ fn push_numbers(text: &mut FormatBuf, pattern: &str, t: Clock) -> Option<()>
 fn push_names(text: &mut FormatBuf, pattern: &str, t: Clock) -> Option<()>
     requires empty { text.old.bytes ≡ [] }
     requires long { NUMBERS_LEN < length pattern.now }
-    ensures shown { IfSome result (λ _. IsShownByAll pattern.now t text.new.bytes) }
-    ensures succeeds { IsSome result ↔ IsNamedPattern pattern.now }
+    ensures shown { IfSome result (λ _. Spec.IsShownByAll pattern.now t text.new.bytes) }
+    ensures succeeds { IsSome result ↔ Spec.IsNamedPattern pattern.now }
 {
     if is_pattern(pattern, DEFAULT_PATTERN) {
         push_default(text, t);
@@ -176,18 +179,16 @@ pub(crate) fn copy_text(alloc: Global, text: &str) -> Result<String, Error>
     ensures text { IfOk result (λ copy. string_bytes copy ≡ text.now) }
     ensures memory { IfErr result (λ e. e ≡ errors.Memory) }
 {
-    match String::from_str(alloc, text) {
-        Ok(copy) => Ok(copy),
-        Err(_) => Err(Error::Memory),
-    }
+    String::from_str(alloc, text).map_err(|_| Error::Memory)
 }
 
 /// What a named pattern prints of a time, where it is known, without `jiff`. Saves some 2650 instructions, which `jiff`
 /// needs to interpret the pattern. Not inlined: where the text is copied within one function, it is copied by bytes.
+#[tactic(auto, using(crate::proofs::Printing::ShownTexts::named_text))]
 #[inline(never)]
 pub(crate) fn named_text(pattern: &str, time: Time) -> Option<FormatBuf>
-    ensures text { IfSome result (λ text. IsPatternText time pattern.now text.bytes) }
-    ensures succeeds { IsSome result ↔ HasNamedText time pattern.now }
+    ensures text { IfSome result (λ text. Spec.IsPatternText time pattern.now text.bytes) }
+    ensures succeeds { IsSome result ↔ Spec.HasNamedText time pattern.now }
 {
     if !has_named_clock(time) {
         return None;
@@ -206,4 +207,56 @@ pub(crate) fn short_buf(text: &str) -> FormatBuf
     let mut buf = ArrayString::new();
     buf.push_str(text);
     buf
+}
+
+/// Maps a fault of `jiff`'s printer.
+fn printing_fault(error: jiff::Error) -> Error
+    ensures { ((error ≡ jiff_errors.OutOfMemory) × (result ≡ errors.Memory))
+        ⊎ ((error ≡ jiff_errors.OutOfMemory → ⊥) × (result ≡ errors.Pattern)) }
+{
+    match error {
+        jiff::Error::OutOfMemory => Error::Memory,
+        _ => Error::Pattern,
+    }
+}
+
+/// The parts that are printed, with the abbreviation and the name of the zone.
+fn broken_down_time<'t>(
+    moment: &Zoned<'_>,
+    abbreviation: &'t str,
+    name: Option<&'t str>,
+) -> BrokenDownTime<'t>
+    ensures { parts_of result
+        ≡ record (zoned_parts (plain_zoned moment.now).datetime (plain_zoned moment.now).offset
+        (plain_zoned moment.now).timestamp
+        abbreviation.now (option_map (λ s. s.now) name.entry))
+        { weekday = Some (weekday_of (plain_zoned moment.now).datetime.date) } }
+{
+    let plain = moment.to_plain();
+    BrokenDownTime {
+        offset: Some(plain.offset),
+        weekday: Some(moment.weekday()),
+        timestamp: Some(plain.timestamp),
+        tz_abbreviation: Some(abbreviation),
+        iana: name,
+        ..BrokenDownTime::from_datetime(plain.datetime)
+    }
+}
+
+/// What `jiff`'s strict printer shows by a pattern. It is given the day of the week, since it promises none by itself.
+pub(crate) fn pattern_text(
+    alloc: Global,
+    pattern: &str,
+    moment: &Zoned<'_>,
+) -> Result<String, Error>
+    ensures { Spec.PrintsAt pattern.now (plain_zoned moment.now) result }
+{
+    let plain = moment.to_plain();
+    let info = plain.time_zone.to_offset_info(plain.timestamp);
+    let (abbreviation, name) = (info.abbreviation.as_str(), plain.time_zone.iana_name());
+    let parts = broken_down_time(moment, abbreviation, name);
+    match to_string(alloc, Config::new(), pattern.as_bytes(), &parts) {
+        Ok(text) => Ok(text),
+        Err(error) => Err(printing_fault(error)),
+    }
 }

@@ -3,8 +3,8 @@ use Rattle.std.proofs.Common.{◌≡◌, ◌≢◌, ◌∙◌, ◌⊎◌, inl, i
 use Rattle.std.proofs.lemmas.List.Elements.{All-nil}
 use Rattle.std.specs.List.{flat_map}
 use Rattle.gix_date.specs.Text.Characters.{newline}
-use Rattle.gix_date_lines.specs.Lines.{IsCutAfter, IsLine, Part, Splits, last_line, with_last_line, with_newline}
-use Rattle.gix_date_lines.proofs.Splitting.{Splits-newline, Splits-open}
+use Rattle.streams.specs.Lines.{IsCutAfter, IsLine, Part, Splits, last_line, with_last_line, with_newline}
+use Rattle.streams.proofs.Splitting.{Splits-newline, Splits-open}
 use Rattle.gix_date_c.specs.Lines.Blocks.{AreFirstLines}
 
 -- the lines of a front of the block, beyond which this is left; they may go on if they end at a newline

@@ -4,7 +4,7 @@ use Rattle.std.proofs.Math.ListN.{set}
 use Rattle.std.proofs.lemmas.Slice.Zip.{AllZip-long}
 use Rattle.std.specs.List.{AllZip}
 use Rattle.gix_date.specs.Header.Canonical.{is_canonical_header}
-use Rattle.gix_date_lines.specs.Lines.{IsCutAfter}
+use Rattle.streams.specs.Lines.{IsCutAfter}
 use Rattle.gix_date_c.specs.Git.Dates.{bool_for_c}
 use Rattle.gix_date_c.specs.Lines.Blocks.{ChecksLines, DoesLines}
 use Rattle.gix_date_c.specs.Lines.Columns.{Columns, changed, columns_after, room_of, with_answer}

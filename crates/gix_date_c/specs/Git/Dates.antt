@@ -5,10 +5,10 @@ use Rattle.jiff.specs.declared.zoned.Zoned.{Zoned}
 use Rattle.git_date.specs.Approximate.Reading.{ApproximateOutcome, HasApproximatePlacesIn}
 use Rattle.git_date.specs.Approximate.Expiry.{ExpiryOutcome, HasExpiryPlacesIn}
 use Rattle.git_date.specs.Exact.Outcome.{DateOutcomeAt, HasPlacesIn}
-use Rattle.git_date.specs.declared.approximate.answer.Approximate.{Approximate}
+use Rattle.git_date.specs.declared.approximate.Approximate.{Approximate}
 use Rattle.git_date.specs.declared.approximate.expiry.Expiry.{Expiry}
 use Rattle.git_date.specs.declared.approximate.expiry.Expiry.TheVariants.{Never, All, Before}
-use Rattle.git_date.specs.declared.date.ReadDate.{ReadDate}
+use Rattle.git_date.specs.declared.reader.ReadDate.{ReadDate}
 use Rattle.git_date.specs.declared.error.DateError.{DateError}
 use Rattle.git_date.specs.declared.error.DateError.TheVariants as errors
 use Rattle.gix_date_c.specs.Moments.{Place}

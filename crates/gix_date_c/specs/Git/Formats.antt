@@ -7,8 +7,8 @@ use Rattle.jiff.specs.Types.{TimeZone}
 use Rattle.gix_date.specs.declared.time.Time.{Time}
 use Rattle.git_date.specs.Formats.Format.{shown_by_format}
 use Rattle.git_date.specs.Formats.Pieces.{checked}
-use Rattle.git_date.specs.declared.format.fault.FormatFault.{FormatFault}
-use Rattle.git_date.specs.declared.format.fault.FormatFault.TheVariants as faults
+use Rattle.git_date.specs.declared.format.error.FormatFault.{FormatFault}
+use Rattle.git_date.specs.declared.format.error.FormatFault.TheVariants as faults
 use Rattle.gix_date_c.specs.Git.Modes.{local_of}
 use Rattle.gix_date_c.specs.Values.Refusals.{refused, refused_at}
 use Rattle.gix_date_c.specs.declared.values.refusal.Refusal.{Refusal}

@@ -22,8 +22,8 @@ use Rattle.gix_date_c.specs.declared.values.status.Status.TheVariants.{NoSuchOpt
 abbrev pub kinds : List DateKind
 kinds = Relative ∷ Iso8601Strict ∷ Iso8601 ∷ Rfc2822 ∷ Short ∷ Default ∷ Human ∷ Raw ∷ Unix ∷ []
 
-abbrev pub kind_of : ℕ → Option DateKind
-kind_of number = slice_get kinds number
+abbrev pub kind_numbered : ℕ → Option DateKind
+kind_numbered number = slice_get kinds number
 
 abbrev pub kind_number : DateKind → ℕ
 kind_number Relative = 0
@@ -43,7 +43,7 @@ local_of n = if n == 0 then Some false else if n == 1 then Some true else None
 -- the mode of these numbers
 abbrev pub mode_of : CMode → Option DateMode
 mode_of mode = do
-  kind ← kind_of mode.kind
+  kind ← kind_numbered mode.kind
   local ← local_of mode.local
   Some (record { kind = kind; local = local })
 
@@ -52,7 +52,7 @@ mode_for_c mode = record { kind = kind_number mode.kind; local = bool_for_c mode
 
 -- a kind is had back from its number, and a mode from both of its numbers
 abbrev pub IsNumbered : DateMode → Type 0
-IsNumbered mode = (kind_of (kind_number mode.kind) ≡ Some mode.kind) × (mode_of (mode_for_c mode) ≡ Some mode)
+IsNumbered mode = (kind_numbered (kind_number mode.kind) ≡ Some mode.kind) × (mode_of (mode_for_c mode) ≡ Some mode)
 
 -- the mode that a name says
 abbrev pub mode_answer : List ℕ → Result CMode Status

@@ -3,7 +3,7 @@ use Rattle.std.specs.Prelude.{◌≡◌, ℕ, List, Option, Some, None, Result, 
 use Rattle.std.specs.Result.{result_map_both}
 use Rattle.jiff.specs.Types.{TimeZone}
 use Rattle.git_date.specs.Show.Clocks.{moment_at}
-use Rattle.git_date.specs.Show.OwnDates.{own_shown}
+use Rattle.git_date.specs.Show.OwnDates.{own_date_shown}
 use Rattle.git_date.specs.declared.mode.DateMode.{DateMode}
 use Rattle.git_date.specs.declared.show.own.OwnDateError.{OwnDateError}
 use Rattle.git_date.specs.declared.show.own.OwnDateError.TheVariants as faults
@@ -23,7 +23,7 @@ own_status faults.OffsetTooWide = statuses.OffsetTooWide
 
 -- what Git shows of the time of a line at an instant in a zone, in a mode that may be none
 abbrev pub own_answer : GitTime → Option DateMode → Place → Result (List ℕ) Status
-own_answer t (Some mode) place = result_map_both (λ text. text) own_status (own_shown (moment_at place.0 place.1) mode t)
+own_answer t (Some mode) place = result_map_both (λ text. text) own_status (own_date_shown (moment_at place.0 place.1) mode t)
 own_answer t None place = Err statuses.NoSuchOption
 
 -- the same where there are both

@@ -2,7 +2,7 @@
 use Rattle.std.specs.Prelude.{◌≡◌, ◌⊎◌, ◌≤◌, ℕ, List, [], length, Result}
 use Rattle.std.specs.List.{AllZip}
 use Rattle.gix_date.specs.Header.Canonical.{is_canonical_header}
-use Rattle.gix_date_lines.specs.Lines.{Part, with_last_line}
+use Rattle.streams.specs.Lines.{Part, with_last_line}
 use Rattle.gix_date_c.specs.Git.Dates.{bool_for_c}
 use Rattle.gix_date_c.specs.Lines.Columns.{Columns, changed, columns_after, room_of}
 use Rattle.gix_date_c.specs.declared.values.status.Status.{Status}

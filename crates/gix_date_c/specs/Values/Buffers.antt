@@ -18,6 +18,10 @@ pub record Outcome : Type 0 where
   pub len : ℕ
   pub status : ℕ
 
+-- the same by its parts
+abbrev pub outcome : List ℕ → ℕ → ℕ → Outcome
+outcome bytes len status = record { bytes = bytes; len = len; status = status }
+
 -- a buffer with a text at its front
 abbrev pub with_text : List ℕ → List ℕ → List ℕ
 with_text text bytes = text ++ drop (length text) bytes
@@ -36,8 +40,9 @@ outcome_of (Ok text) bytes = text_outcome text bytes
 outcome_of (Err refusal) bytes = record { bytes = bytes; len = 0; status = number_of refusal }
 
 -- a call puts an answer of which this is known into a buffer
-abbrev pub Puts : (Result (List ℕ) Status → Type 0) → List ℕ → Outcome → Type 0
-Puts Answers old outcome = (answer : Result (List ℕ) Status) × Answers answer × (outcome ≡ outcome_of answer old)
+abbrev pub Puts : (Result (List ℕ) Status → Type 0) → List ℕ → List ℕ → ℕ → ℕ → Type 0
+Puts Answers old bytes len status =
+    (answer : Result (List ℕ) Status) × Answers answer × (outcome bytes len status ≡ outcome_of answer old)
 
 -- the same of an answer that may have a place, which is that of the refusal, or as it was
 abbrev pub PutsRead : (Result (List ℕ) Refusal → Type 0) → List ℕ × ℕ → Outcome × ℕ → Type 0

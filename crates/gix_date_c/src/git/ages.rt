@@ -1,9 +1,7 @@
 //! Ages as Git chooses their units.
 ghost use Rattle.std.specs.Prelude.{◌≡◌};
 ghost use Rattle.std.specs.Result.{result_map_both};
-ghost use Rattle.gix_date_c.specs.Git.Ages.{age_at, age_for_c};
-ghost use Rattle.gix_date_c.specs.Moments.{nanos_of};
-ghost use Rattle.gix_date_c.specs.Values.Stores.{Stores};
+ghost use Rattle.gix_date_c.specs as Spec;
 
 use crate::moment::{CInstant, timestamp_of};
 use crate::values::status::Status;
@@ -25,24 +23,22 @@ pub struct CAge {
 /// Tells how long before a moment a time was.
 #[unsafe(no_mangle)]
 pub extern "C" fn git_date_age_at(time: &CTime, now: &CInstant, age: &mut CAge) -> u32
-    ensures { Stores (age_at time.now.seconds (nanos_of now.now)) age.old age.new result }
+    ensures { Spec.Stores (Spec.age_at time.now.seconds (Spec.nanos_of now.now)) age.old age.new result }
 {
     store(age_at(load_time(time), timestamp_of(now)), age)
 }
 
 /// The age of a time at an instant, where there is one.
 fn age_at(time: Time, now: Result<Timestamp, Status>) -> Result<CAge, Status>
-    ensures { result ≡ age_at time.seconds (result_map_both (λ now. now.nanosecond) (λ status. status) now) }
+    ensures { result ≡ Spec.age_at time.seconds (result_map_both (λ now. now.nanosecond) (λ status. status) now) }
 {
-    match git_date::age_at(time, now?) {
-        Ok(age) => Ok(age_for_c(age)),
-        Err(_) => Err(Status::GitRange),
-    }
+    let age = git_date::age_at(time, now?);
+    age.map(age_for_c).map_err(|_| Status::GitRange)
 }
 
 /// An age as C has it. A time after the moment has none.
 fn age_for_c(age: Option<Age>) -> CAge
-    ensures { result ≡ age_for_c age }
+    ensures { result ≡ Spec.age_for_c age }
 {
     let (unit, count, months) = match age {
         Some(Age::Seconds(count)) => (0, count, 0),

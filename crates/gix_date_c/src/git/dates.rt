@@ -2,11 +2,7 @@
 ghost use Rattle.std.specs.Prelude.{◌≡◌};
 ghost use Rattle.std.specs.Result.{result_map_both};
 ghost use Rattle.jiff.specs.Words.{plain_zone};
-ghost use Rattle.gix_date_c.specs.Git.Dates.{IsApproximate, IsExact, IsExpiry, approximate_of, exact_of, expiry_of};
-ghost use Rattle.gix_date_c.specs.Moments.{place_of, placed};
-ghost use Rattle.gix_date_c.specs.Reading.{IsReadAt, IsReadIn, IsReadPlaced};
-ghost use Rattle.gix_date_c.specs.Values.Stores.{StoresRead};
-ghost use Rattle.gix_date_c.specs.Zones.{IsShown};
+ghost use Rattle.gix_date_c.specs as Spec;
 
 use crate::git::{date_refusal, ignored_place};
 use crate::moment::{CInstant, timestamp_of};
@@ -40,7 +36,7 @@ pub extern "C" fn git_date_parse_at(
     date: &mut CExact,
     place: &mut usize,
 ) -> u32
-    ensures { StoresRead (IsReadPlaced IsExact (IsShown zone.now) now.now text.now)
+    ensures { Spec.StoresRead (Spec.IsReadPlaced Spec.IsExact (Spec.IsShown zone.now) now.now text.now)
         (date.old, place.old) (date.new, place.new) result }
 {
     let answer = read_exact(text, timestamp_of(now), zone.zone());
@@ -53,7 +49,7 @@ fn read_exact(
     now: Result<Timestamp, Status>,
     zone: Result<TimeZone<'_>, Status>,
 ) -> Result<CExact, Refusal>
-    ensures { IsReadAt IsExact (placed (result_map_both (λ now. now.nanosecond) (λ status. status) now)
+    ensures { Spec.IsReadAt Spec.IsExact (Spec.placed (result_map_both (λ now. now.nanosecond) (λ status. status) now)
         (result_map_both plain_zone (λ status. status) zone.entry)) text.now result }
 {
     let zone = zone.map_err(Refusal::of)?;
@@ -64,7 +60,7 @@ fn read_exact(
 
 /// What a text says at a moment, where there is one.
 pub(crate) fn read_exact_now(text: &[u8], now: Result<Zoned<'_>, Status>) -> Result<CExact, Refusal>
-    ensures { IsReadAt IsExact (place_of now.entry) text.now result }
+    ensures { Spec.IsReadAt Spec.IsExact (Spec.place_of now.entry) text.now result }
 {
     let now = now.map_err(Refusal::of)?;
     let date = parse_date(text, now).map_err(date_refusal)?;
@@ -73,7 +69,7 @@ pub(crate) fn read_exact_now(text: &[u8], now: Result<Zoned<'_>, Status>) -> Res
 
 /// A date as C has it.
 fn exact_of(date: ReadDate) -> CExact
-    ensures { result ≡ exact_of date }
+    ensures { result ≡ Spec.exact_of date }
 {
     CExact {
         time: time_for_c(date.time),
@@ -100,7 +96,7 @@ pub extern "C" fn git_date_approxidate_at(
     date: &mut CApproximate,
     place: &mut usize,
 ) -> u32
-    ensures { StoresRead (IsReadIn IsApproximate (IsShown zone.now) now.now text.now)
+    ensures { Spec.StoresRead (Spec.IsReadIn Spec.IsApproximate (Spec.IsShown zone.now) now.now text.now)
         (date.old, place.old) (date.new, place.new) result }
 {
     let answer = read_approximate(text, zone.moment(now));
@@ -112,7 +108,7 @@ pub(crate) fn read_approximate(
     text: &[u8],
     now: Result<Zoned<'_>, Status>,
 ) -> Result<CApproximate, Refusal>
-    ensures { IsReadAt IsApproximate now.entry text.now result }
+    ensures { Spec.IsReadAt Spec.IsApproximate now.entry text.now result }
 {
     let now = now.map_err(Refusal::of)?;
     let date = approxidate(text, now).map_err(date_refusal)?;
@@ -121,7 +117,7 @@ pub(crate) fn read_approximate(
 
 /// A date as C has it.
 fn approximate_of(date: Approximate) -> CApproximate
-    ensures { result ≡ approximate_of date }
+    ensures { result ≡ Spec.approximate_of date }
 {
     CApproximate {
         time: time_for_c(date.time),
@@ -147,7 +143,7 @@ pub extern "C" fn git_date_expiry_at(
     expiry: &mut CExpiry,
     place: &mut usize,
 ) -> u32
-    ensures { StoresRead (IsReadIn (IsExpiry expiry.old) (IsShown zone.now) now.now text.now)
+    ensures { Spec.StoresRead (Spec.IsReadIn (Spec.IsExpiry expiry.old) (Spec.IsShown zone.now) now.now text.now)
         (expiry.old, place.old) (expiry.new, place.new) result }
 {
     let answer = read_expiry(text, zone.moment(now), *expiry);
@@ -160,7 +156,7 @@ fn read_expiry(
     now: Result<Zoned<'_>, Status>,
     old: CExpiry,
 ) -> Result<CExpiry, Refusal>
-    ensures { IsReadAt (IsExpiry old) now.entry text.now result }
+    ensures { Spec.IsReadAt (Spec.IsExpiry old) now.entry text.now result }
 {
     let now = now.map_err(Refusal::of)?;
     let expiry = expiry_date(text, now).map_err(date_refusal)?;
@@ -169,7 +165,7 @@ fn read_expiry(
 
 /// What expires, as C has it.
 fn expiry_of(old: CExpiry, expiry: Expiry) -> CExpiry
-    ensures { result ≡ expiry_of old expiry }
+    ensures { result ≡ Spec.expiry_of old expiry }
 {
     match expiry {
         Expiry::Never => CExpiry { kind: 0, ..old },

@@ -3,12 +3,8 @@ ghost use Rattle.std.specs.Prelude.{◌≡◌, Some, Ok, string_bytes, IsTrue};
 ghost use Rattle.std.specs.Result.{result_map_both};
 ghost use Rattle.jiff.specs.Types.{TimeZone as Zone};
 ghost use Rattle.jiff.specs.Words.{plain_zone};
-ghost use Rattle.git_date.specs.Formats.Format.{format_bytes};
-ghost use Rattle.gix_date_c.specs.Git.Formats.{Asked, IsByFormat, IsByFormatAt, IsByFormatIn, checked_bytes, format_refusal, text_of};
-ghost use Rattle.gix_date_c.specs.Git.Modes.{local_of};
-ghost use Rattle.gix_date_c.specs.Values.Buffers.{Outcome, PutsRead, outcome_of};
-ghost use Rattle.gix_date_c.specs.Values.Times.{load_time};
-ghost use Rattle.gix_date_c.specs.Zones.{IsShown};
+ghost use Rattle.gix_date_c.specs as Spec;
+ghost use Rattle.git_date.specs as GitDate;
 
 use crate::git::show::local_of;
 use crate::values::buffer::store_text;
@@ -37,9 +33,9 @@ pub extern "C" fn git_date_show_by_format(
     len: &mut usize,
     place: &mut usize,
 ) -> u32
-    ensures { PutsRead
-        (IsByFormatIn (record { time = load_time time.now; format = format.now; local = local }) (IsShown zone.now))
-        (out.old, place.old) (record { bytes = out.new; len = len.new; status = result }, place.new) }
+    ensures { Spec.PutsRead
+        (Spec.IsByFormatIn (record { time = Spec.load_time time.now; format = format.now; local = local }) (Spec.IsShown zone.now))
+        (out.old, place.old) (Spec.outcome out.new len.new result, place.new) }
 {
     let mut brief = BriefText::new();
     if zone.is_zone() && is_own_brief(load_time(time), format, local, &mut brief) {
@@ -60,9 +56,9 @@ fn store_by_format(
     len: &mut usize,
     place: &mut usize,
 ) -> u32
-    ensures { PutsRead
-        (IsByFormatIn (record { time = load_time time.now; format = format.now; local = local }) (IsShown zone.now))
-        (out.old, place.old) (record { bytes = out.new; len = len.new; status = result }, place.new) }
+    ensures { Spec.PutsRead
+        (Spec.IsByFormatIn (record { time = Spec.load_time time.now; format = format.now; local = local }) (Spec.IsShown zone.now))
+        (out.old, place.old) (Spec.outcome out.new len.new result, place.new) }
 {
     let mut short = ShortText::new();
     let answer = by_format(
@@ -79,7 +75,7 @@ fn store_by_format(
 /// Puts what a format shows of a time by its own clock into a brief text, for which no zone matters. `false` says nothing.
 fn is_own_brief(time: Time, format: &[u8], local: u8, brief: &mut BriefText) -> bool
     ensures { IsTrue result
-        → (zone : Zone) → IsByFormat time zone (local_of local) (checked_bytes format.now) (Ok brief.new.bytes) }
+        → (zone : Zone) → Spec.IsByFormat time zone (Spec.local_of local) (Spec.checked_bytes format.now) (Ok brief.new.bytes) }
 {
     if local != 0 {
         return false;
@@ -99,9 +95,9 @@ fn by_format(
     zone: Result<TimeZone<'_>, Status>,
     short: &mut ShortText,
 ) -> Result<Option<String>, Refusal>
-    ensures { IsByFormatAt (record { time = time; format = format.now; local = local })
+    ensures { Spec.IsByFormatAt (record { time = time; format = format.now; local = local })
         (result_map_both plain_zone (λ status. status) zone.entry)
-        (result_map_both (text_of short.new.bytes) (λ refusal. refusal) result) }
+        (result_map_both (Spec.text_of short.new.bytes) (λ refusal. refusal) result) }
 {
     let zone = zone.map_err(Refusal::of)?;
     let local = local_of(local).ok_or(Refusal::of(Status::NoSuchOption))?;
@@ -120,7 +116,7 @@ fn is_short(
     short: &mut ShortText,
 ) -> bool
     ensures { IsTrue result
-        → IsByFormat time (plain_zone zone.entry) (Some local) (checked_bytes format.now) (Ok short.new.bytes) }
+        → Spec.IsByFormat time (plain_zone zone.entry) (Some local) (Spec.checked_bytes format.now) (Ok short.new.bytes) }
 {
     match utf8_text(format) {
         Ok(text) => short_by_format(time, text, local, zone, short),
@@ -136,7 +132,7 @@ fn long_by_format(
     local: bool,
     zone: TimeZone<'_>,
 ) -> Result<String, Refusal>
-    ensures { IsByFormat time (plain_zone zone.entry) (Some local) (checked_bytes format.now)
+    ensures { Spec.IsByFormat time (plain_zone zone.entry) (Some local) (Spec.checked_bytes format.now)
         (result_map_both string_bytes (λ refusal. refusal) result) }
 {
     let format = checked_bytes(format)?;
@@ -150,7 +146,7 @@ fn long_by_format(
 
 /// The format of these bytes.
 fn checked_bytes(bytes: &[u8]) -> Result<DateFormat<'_>, Refusal>
-    ensures { result_map_both format_bytes (λ refusal. refusal) result ≡ checked_bytes bytes.now }
+    ensures { result_map_both GitDate.format_bytes (λ refusal. refusal) result ≡ Spec.checked_bytes bytes.now }
 {
     let text = utf8_text(bytes).map_err(Refusal::of)?;
     DateFormat::new(text).map_err(format_refusal)
@@ -158,7 +154,7 @@ fn checked_bytes(bytes: &[u8]) -> Result<DateFormat<'_>, Refusal>
 
 /// The refusal that C is told for the fault of a format.
 fn format_refusal(fault: FormatFault) -> Refusal
-    ensures { result ≡ format_refusal fault }
+    ensures { result ≡ Spec.format_refusal fault }
 {
     match fault {
         FormatFault::FlagRefused(place) => Refusal::at(Status::FlagRefused, place),
@@ -174,8 +170,8 @@ fn store_shown(
     out: &mut [u8],
     len: &mut usize,
 ) -> u32
-    ensures { record { bytes = out.new; len = len.new; status = result }
-        ≡ outcome_of (result_map_both (text_of short.now.bytes) (λ status. status) answer) out.old }
+    ensures { Spec.outcome out.new len.new result
+        ≡ Spec.outcome_of (result_map_both (Spec.text_of short.now.bytes) (λ status. status) answer) out.old }
 {
     match answer {
         Ok(None) => store_text(Ok(short.as_str()), out, len),

@@ -1,12 +1,8 @@
 //! Blocks of many lines, each one of Git's dates.
 ghost use Rattle.std.specs.Prelude.{Result};
 ghost use Rattle.jiff.specs.declared.zoned.Zoned.{Zoned};
-ghost use Rattle.gix_date_c.specs.Lines.Blocks.{DoesLines};
-ghost use Rattle.gix_date_c.specs.Lines.Columns.{Columns};
-ghost use Rattle.gix_date_c.specs.Lines.Readers.{IsApproximateLine, IsExactLine};
-ghost use Rattle.gix_date_c.specs.Moments.{IsNow, IsPlaced, Place};
-ghost use Rattle.gix_date_c.specs.Zones.{IsShown};
 ghost use Rattle.gix_date_c.specs.declared.values.status.Status.{Status};
+ghost use Rattle.gix_date_c.specs as Spec;
 
 use crate::lines::read_lines;
 use crate::lines::reader::LineReader;
@@ -24,8 +20,8 @@ pub extern "C" fn git_date_parse_lines_at(
     statuses: &mut [u32],
     bytes: &mut usize,
 ) -> usize
-    ensures { (place : Result Place Status) × IsPlaced (IsShown zone.now) now.now place
-        × DoesLines (IsExactLine place) block.now
+    ensures { (place : Result Spec.Place Status) × Spec.IsPlaced (Spec.IsShown zone.now) now.now place
+        × Spec.DoesLines (Spec.IsExactLine place) block.now
         (record { seconds = seconds.old; offsets = offsets.old; statuses = statuses.old })
         (record { seconds = seconds.new; offsets = offsets.new; statuses = statuses.new }) (result, bytes.new) }
 {
@@ -46,8 +42,8 @@ pub extern "C" fn git_date_approxidate_lines_at(
     statuses: &mut [u32],
     bytes: &mut usize,
 ) -> usize
-    ensures { (moment : Result Zoned Status) × IsNow (IsShown zone.now) now.now moment
-        × DoesLines (IsApproximateLine moment) block.now
+    ensures { (moment : Result Zoned Status) × Spec.IsNow (Spec.IsShown zone.now) now.now moment
+        × Spec.DoesLines (Spec.IsApproximateLine moment) block.now
         (record { seconds = seconds.old; offsets = offsets.old; statuses = statuses.old })
         (record { seconds = seconds.new; offsets = offsets.new; statuses = statuses.new }) (result, bytes.new) }
 {

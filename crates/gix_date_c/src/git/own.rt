@@ -2,11 +2,7 @@
 ghost use Rattle.std.specs.Prelude.{◌≡◌};
 ghost use Rattle.std.specs.Result.{result_map_both};
 ghost use Rattle.jiff.specs.Words.{plain_zone};
-ghost use Rattle.gix_date_c.specs.Git.Own.{IsOwnShownIn, own_shown_at, own_status};
-ghost use Rattle.gix_date_c.specs.Idents.{load_git_time};
-ghost use Rattle.gix_date_c.specs.Moments.{placed};
-ghost use Rattle.gix_date_c.specs.Values.Buffers.{Outcome, Puts};
-ghost use Rattle.gix_date_c.specs.Zones.{IsShown};
+ghost use Rattle.gix_date_c.specs as Spec;
 
 use crate::git::show::{CMode, mode_of};
 use crate::ident::{CGitTime, load_git_time};
@@ -29,8 +25,8 @@ pub extern "C" fn git_date_show_git_time_at(
     out: &mut [u8],
     len: &mut usize,
 ) -> u32
-    ensures { Puts (IsOwnShownIn (load_git_time time.now) mode.now (IsShown zone.now) now.now)
-        out.old (record { bytes = out.new; len = len.new; status = result }) }
+    ensures { Spec.Puts (Spec.IsOwnShownIn (Spec.load_git_time time.now) mode.now (Spec.IsShown zone.now) now.now)
+        out.old out.new len.new result }
 {
     let shown = shown_at(load_git_time(time), mode, timestamp_of(now), zone.zone());
     store_array(shown, out, len)
@@ -44,7 +40,7 @@ fn shown_at(
     zone: Result<TimeZone<'_>, Status>,
 ) -> Result<OwnDateText, Status>
     ensures { result_map_both (λ text. text.bytes) (λ status. status) result
-        ≡ own_shown_at time mode.now (placed (result_map_both (λ now. now.nanosecond) (λ status. status) now)
+        ≡ Spec.own_shown_at time mode.now (Spec.placed (result_map_both (λ now. now.nanosecond) (λ status. status) now)
         (result_map_both plain_zone (λ status. status) zone.entry)) }
 {
     let zone = zone?;
@@ -55,7 +51,7 @@ fn shown_at(
 
 /// The status of a refusal.
 fn own_status(error: OwnDateError) -> Status
-    ensures { result ≡ own_status error }
+    ensures { result ≡ Spec.own_status error }
 {
     match error {
         OwnDateError::Range => Status::GitRange,

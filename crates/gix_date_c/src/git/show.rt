@@ -1,13 +1,8 @@
 //! Dates as Git shows them.
-ghost use Rattle.std.specs.Prelude.{◌≡◌, option_map};
+ghost use Rattle.std.specs.Prelude.{◌≡◌};
 ghost use Rattle.std.specs.Result.{result_map_both};
 ghost use Rattle.jiff.specs.Words.{plain_zone};
-ghost use Rattle.gix_date_c.specs.Values.Buffers.{Outcome, Puts};
-ghost use Rattle.gix_date_c.specs.Git.Modes.{IsShownIn, kind_number, kind_of, local_of, mode_answer, mode_for_c, mode_of, shown_at};
-ghost use Rattle.gix_date_c.specs.Moments.{placed};
-ghost use Rattle.gix_date_c.specs.Values.Stores.{Stores};
-ghost use Rattle.gix_date_c.specs.Values.Times.{load_time};
-ghost use Rattle.gix_date_c.specs.Zones.{IsShown};
+ghost use Rattle.gix_date_c.specs as Spec;
 
 use crate::moment::{CInstant, timestamp_of};
 use crate::values::buffer::store_array;
@@ -32,7 +27,7 @@ pub struct CMode {
 /// The mode of one of Git's names.
 #[unsafe(no_mangle)]
 pub extern "C" fn git_date_mode_named(name: &[u8], mode: &mut CMode) -> u32
-    ensures { Stores (mode_answer name.now) mode.old mode.new result }
+    ensures { Spec.Stores (Spec.mode_answer name.now) mode.old mode.new result }
 {
     store(mode_named(name), mode)
 }
@@ -47,8 +42,7 @@ pub extern "C" fn git_date_show_at(
     out: &mut [u8],
     len: &mut usize,
 ) -> u32
-    ensures { Puts (IsShownIn (load_time time.now) mode.now (IsShown zone.now) now.now)
-        out.old (record { bytes = out.new; len = len.new; status = result }) }
+    ensures { Spec.Puts (Spec.IsShownIn (Spec.load_time time.now) mode.now (Spec.IsShown zone.now) now.now) out.old out.new len.new result }
 {
     let shown = shown_at(load_time(time), mode, timestamp_of(now), zone.zone());
     store_array(shown, out, len)
@@ -62,56 +56,35 @@ fn shown_at(
     zone: Result<TimeZone<'_>, Status>,
 ) -> Result<DateText, Status>
     ensures { result_map_both (λ text. text.bytes) (λ status. status) result
-        ≡ shown_at time mode.now (placed (result_map_both (λ now. now.nanosecond) (λ status. status) now)
+        ≡ Spec.shown_at time mode.now (Spec.placed (result_map_both (λ now. now.nanosecond) (λ status. status) now)
         (result_map_both plain_zone (λ status. status) zone.entry)) }
 {
     let zone = zone?;
     let now = now?;
     let mode = mode_of(mode).ok_or(Status::NoSuchOption)?;
-    match show_date_at(time, mode, now, zone) {
-        Ok(text) => Ok(text),
-        Err(_) => Err(Status::GitRange),
-    }
+    show_date_at(time, mode, now, zone).map_err(|_| Status::GitRange)
 }
 
 /// The mode that a name of Git's says, as C has it.
 fn mode_named(name: &[u8]) -> Result<CMode, Status>
-    ensures { result ≡ mode_answer name.now }
+    ensures { result ≡ Spec.mode_answer name.now }
 {
-    match utf8_text(name)?.parse::<DateMode>() {
-        Ok(mode) => Ok(mode_for_c(mode)),
-        Err(_) => Err(Status::NoSuchOption),
-    }
+    let mode = utf8_text(name)?.parse::<DateMode>();
+    mode.map(mode_for_c).map_err(|_| Status::NoSuchOption)
 }
 
 fn mode_for_c(mode: DateMode) -> CMode
-    ensures { result ≡ mode_for_c mode }
+    ensures { result ≡ Spec.mode_for_c mode }
 {
     CMode {
-        kind: kind_number(mode.kind),
+        kind: mode.kind as u32,
         local: u8::from(mode.local),
-    }
-}
-
-fn kind_number(kind: DateKind) -> u32
-    ensures { result ≡ kind_number kind }
-{
-    match kind {
-        DateKind::Relative => 0,
-        DateKind::Iso8601Strict => 1,
-        DateKind::Iso8601 => 2,
-        DateKind::Rfc2822 => 3,
-        DateKind::Short => 4,
-        DateKind::Default => 5,
-        DateKind::Human => 6,
-        DateKind::Raw => 7,
-        DateKind::Unix => 8,
     }
 }
 
 /// The mode of these numbers.
 pub(crate) fn mode_of(mode: &CMode) -> Option<DateMode>
-    ensures { result ≡ mode_of mode.now }
+    ensures { result ≡ Spec.mode_of mode.now }
 {
     Some(DateMode {
         kind: kind_of(mode.kind)?,
@@ -120,7 +93,7 @@ pub(crate) fn mode_of(mode: &CMode) -> Option<DateMode>
 }
 
 fn kind_of(number: u32) -> Option<DateKind>
-    ensures { result ≡ kind_of number }
+    ensures { result ≡ Spec.kind_numbered number }
 {
     match number {
         0 => Some(DateKind::Relative),
@@ -138,7 +111,7 @@ fn kind_of(number: u32) -> Option<DateKind>
 
 /// Whether the clock is the zone's, by a `bool` of C.
 pub(crate) fn local_of(number: u8) -> Option<bool>
-    ensures { result ≡ local_of number }
+    ensures { result ≡ Spec.local_of number }
 {
     match number {
         0 => Some(false),

@@ -1,13 +1,13 @@
 //! The arrays of the caller's that the answers for lines go into.
 ghost use Rattle.std.specs.Prelude.{◌≡◌, ◌<◌, min, length};
-ghost use Rattle.gix_date_c.specs.Lines.Columns.{Columns, room_of, with_answer};
+ghost use Rattle.gix_date_c.specs as Spec;
 
 use crate::values::status::Status;
 use crate::values::time::CTime;
 
 /// How many lines have a cell in each array.
 pub(crate) fn room(seconds: &[i64], offsets: &[i32], statuses: &[u32]) -> usize
-    ensures { result ≡ room_of (record { seconds = seconds.now; offsets = offsets.now; statuses = statuses.now }) }
+    ensures { result ≡ Spec.room_of (record { seconds = seconds.now; offsets = offsets.now; statuses = statuses.now }) }
 {
     seconds.len().min(offsets.len().min(statuses.len()))
 }
@@ -25,7 +25,7 @@ pub(crate) fn store_answer(
     requires offsets { at < length offsets.old }
     requires statuses { at < length statuses.old }
     ensures { record { seconds = seconds.new; offsets = offsets.new; statuses = statuses.new }
-        ≡ with_answer at answer (record { seconds = seconds.old; offsets = offsets.old; statuses = statuses.old }) }
+        ≡ Spec.with_answer at answer (record { seconds = seconds.old; offsets = offsets.old; statuses = statuses.old }) }
 {
     match answer {
         Ok(time) => {

@@ -1,10 +1,7 @@
 //! How a line is read: as the call for one text reads it.
 ghost use Rattle.std.specs.Prelude.{◌≡◌, Result};
-ghost use Rattle.gix_date_c.specs.Moments.{place_of};
-ghost use Rattle.gix_date_c.specs.Signatures.{IsCutAnswer};
-ghost use Rattle.gix_date_c.specs.Lines.Readers.{IsApproximateLine, IsCareful, IsDate, IsExactLine, IsLineRead, for_c, line_reader, time_of};
-ghost use Rattle.gix_date_c.specs.Values.Refusals.{with_status};
-ghost use Rattle.gix_signature.specs.Signature.{Parts};
+ghost use Rattle.gix_date_c.specs as Spec;
+ghost use Rattle.gix_signature.specs as GixSignature;
 
 use crate::careful::{self, CCarefulOptions};
 use crate::git::dates::{read_approximate, read_exact_now};
@@ -47,7 +44,7 @@ pub(crate) fn line_reader<'z>(
     options: &CCarefulOptions,
     now: Option<Result<Zoned<'z>, Status>>,
 ) -> LineReader<'z>
-    ensures { result ≡ line_reader number options.now now.entry }
+    ensures { result ≡ Spec.line_reader number options.now now.entry }
 {
     match number {
         0 => LineReader::Date {
@@ -68,7 +65,7 @@ impl LineReader<'_> {
     /// What a line says.
     #[inline(always)]
     pub(crate) fn read(&self, line: &[u8]) -> Result<CTime, Status>
-        ensures { IsLineRead self.now line.now result }
+        ensures { Spec.IsLineRead self.now line.now result }
     {
         match self {
             LineReader::NoSuch => Err(Status::NoSuchOption),
@@ -90,7 +87,7 @@ fn read_date(
     raw_offsets: u32,
     now: Option<Result<Zoned<'_>, Status>>,
 ) -> Result<Time, Status>
-    ensures { IsDate raw_offsets now.entry line.now result }
+    ensures { Spec.IsDate raw_offsets now.entry line.now result }
 {
     match now {
         Some(now) => parse::parse_at(line, raw_offsets, now),
@@ -104,7 +101,7 @@ fn read_carefully(
     options: &CCarefulOptions,
     now: Option<Result<Zoned<'_>, Status>>,
 ) -> Result<CTime, Refusal>
-    ensures { IsCareful options.now now.entry line.now result }
+    ensures { Spec.IsCareful options.now now.entry line.now result }
 {
     match now {
         Some(now) => careful::parse_at(line, options, now),
@@ -114,44 +111,37 @@ fn read_carefully(
 
 /// The time of a signature line.
 fn signed_time(line: &[u8]) -> Result<Time, Status>
-    ensures { (cut : Result Parts Status) × IsCutAnswer line.now cut × (result ≡ time_of cut) }
+    ensures { (cut : Result GixSignature.Parts Status) × Spec.IsCutAnswer line.now cut × (result ≡ Spec.time_of cut) }
 {
     header_time(signature_of(line)?.time.as_bytes())
 }
 
 /// The time of one of Git's dates, read exactly.
 fn exact_time(line: &[u8], now: Result<Zoned<'_>, Status>) -> Result<CTime, Status>
-    ensures { IsExactLine (place_of now.entry) line.now result }
+    ensures { Spec.IsExactLine (Spec.place_of now.entry) line.now result }
 {
-    match read_exact_now(line, now) {
-        Ok(date) => Ok(date.time),
-        Err(refusal) => Err(refusal.status),
-    }
+    let date = read_exact_now(line, now);
+    date.map(|date| date.time).map_err(|refusal| refusal.status)
 }
 
 /// The time of one of Git's dates, read as people write it.
 fn approximate_time(line: &[u8], now: Result<Zoned<'_>, Status>) -> Result<CTime, Status>
-    ensures { IsApproximateLine now.entry line.now result }
+    ensures { Spec.IsApproximateLine now.entry line.now result }
 {
-    match read_approximate(line, now) {
-        Ok(date) => Ok(date.time),
-        Err(refusal) => Err(refusal.status),
-    }
+    let date = read_approximate(line, now);
+    date.map(|date| date.time).map_err(|refusal| refusal.status)
 }
 
 /// A time, as C has it.
 fn for_c(answer: Result<Time, Status>) -> Result<CTime, Status>
-    ensures { result ≡ for_c answer }
+    ensures { result ≡ Spec.for_c answer }
 {
     answer.map(time_for_c)
 }
 
 /// What was read, without the place of a refusal.
 fn without_place(answer: Result<CTime, Refusal>) -> Result<CTime, Status>
-    ensures { result ≡ with_status answer }
+    ensures { result ≡ Spec.with_status answer }
 {
-    match answer {
-        Ok(time) => Ok(time),
-        Err(refusal) => Err(refusal.status),
-    }
+    answer.map_err(|refusal| refusal.status)
 }

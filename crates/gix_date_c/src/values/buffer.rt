@@ -1,8 +1,7 @@
 //! Texts that go into a buffer of the caller.
 ghost use Rattle.std.specs.Prelude.{◌≡◌, ◌+◌, ◌≤◌, ◌++◌, length, take, drop};
 ghost use Rattle.std.specs.Result.{result_map_both};
-ghost use Rattle.gix_date_c.specs.Values.Buffers.{Outcome, text_outcome, outcome_of};
-ghost use Rattle.gix_date_c.specs.Values.Statuses.{number_of};
+ghost use Rattle.gix_date_c.specs as Spec;
 
 use crate::values::status::Status;
 use arrayvec::ArrayString;
@@ -30,8 +29,8 @@ pub(crate) fn put_bytes_at(out: &mut [u8], at: usize, piece: &[u8]) -> usize
 /// Puts the text of an answer at the front of a buffer, and tells how many bytes it has and how the call ended. A
 /// refusal, and a text that the buffer is too short for, leave the buffer as it is.
 pub(crate) fn store_text(answer: Result<&str, Status>, out: &mut [u8], len: &mut usize) -> u32
-    ensures { record { bytes = out.new; len = len.new; status = result }
-        ≡ outcome_of (result_map_both (λ text. text.now) (λ status. status) answer.entry) out.old }
+    ensures { Spec.outcome out.new len.new result
+        ≡ Spec.outcome_of (result_map_both (λ text. text.now) (λ status. status) answer.entry) out.old }
 {
     match answer {
         Ok(text) => {
@@ -52,8 +51,8 @@ pub(crate) fn store_array<const CAP: usize>(
     out: &mut [u8],
     len: &mut usize,
 ) -> u32
-    ensures { record { bytes = out.new; len = len.new; status = result }
-        ≡ outcome_of (result_map_both (λ text. text.bytes) (λ status. status) answer.entry) out.old }
+    ensures { Spec.outcome out.new len.new result
+        ≡ Spec.outcome_of (result_map_both (λ text. text.bytes) (λ status. status) answer.entry) out.old }
 {
     match &answer {
         Ok(text) => store_text(Ok(text.as_str()), out, len),
@@ -63,8 +62,8 @@ pub(crate) fn store_array<const CAP: usize>(
 
 /// Puts a text at the front of a buffer that has room for it.
 fn put_text(text: &str, out: &mut [u8]) -> Status
-    ensures { record { bytes = out.new; len = length text.now; status = number_of result }
-        ≡ text_outcome text.now out.old }
+    ensures { record { bytes = out.new; len = length text.now; status = Spec.number_of result }
+        ≡ Spec.text_outcome text.now out.old }
 {
     if text.len() > out.len() {
         return Status::NoRoom;

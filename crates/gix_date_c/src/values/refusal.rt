@@ -1,6 +1,6 @@
 //! Why a text is refused, as C is told.
 ghost use Rattle.std.specs.Prelude.{◌≡◌, Some, None};
-ghost use Rattle.gix_date_c.specs.Values.Refusals.{place_after, refused, refused_at, with_status};
+ghost use Rattle.gix_date_c.specs as Spec;
 
 use crate::values::status::Status;
 
@@ -13,7 +13,7 @@ pub(crate) struct Refusal {
 
 impl Refusal {
     pub(crate) fn of(status: Status) -> Refusal
-        ensures { result ≡ refused status }
+        ensures { result ≡ Spec.refused status }
     {
         Refusal {
             status,
@@ -22,7 +22,7 @@ impl Refusal {
     }
 
     pub(crate) fn at(status: Status, place: usize) -> Refusal
-        ensures { result ≡ refused_at status place }
+        ensures { result ≡ Spec.refused_at status place }
     {
         Refusal {
             status,
@@ -36,8 +36,8 @@ pub(crate) fn store_place<T: Drop>(
     answer: Result<T, Refusal>,
     place: &mut usize,
 ) -> Result<T, Status>
-    ensures status { result ≡ with_status answer }
-    ensures place { place.new ≡ place_after answer place.old }
+    ensures status { result ≡ Spec.with_status answer }
+    ensures place { place.new ≡ Spec.place_after answer place.old }
 {
     match answer {
         Ok(value) => Ok(value),

@@ -1,6 +1,6 @@
 //! What a call answers.
 ghost use Rattle.std.specs.Prelude.{◌≡◌};
-ghost use Rattle.gix_date_c.specs.Values.Statuses.{number_of};
+ghost use Rattle.gix_date_c.specs as Spec;
 
 /// How a call ended. C gets the number, and `include/gix_date.h` or `include/git_date.h` has it.
 #[derive(Clone, Copy)]
@@ -76,7 +76,7 @@ pub(crate) enum Status {
 impl Status {
     /// The number for C.
     pub(crate) fn number(self) -> u32
-        ensures { result ≡ number_of self }
+        ensures { result ≡ Spec.number_of self }
     {
         self as u32
     }

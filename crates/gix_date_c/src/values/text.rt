@@ -7,12 +7,10 @@ use crate::values::status::Status;
 use gix_date::bytes;
 
 /// Bytes as text, where they are UTF-8.
+#[tactic(auto, using(gix_date::proofs::Text::Texts::no_text, crate::proofs::Printed::texts))]
 pub(crate) fn utf8_text(bytes: &[u8]) -> Result<&str, Status>
     ensures { MatchResult result (λ text. (text.now ≡ bytes.now) × (is_utf8 bytes.now ≡ true))
         (λ status. (status ≡ NotText) × (is_utf8 bytes.now ≡ false)) }
 {
-    match bytes::text_of(bytes) {
-        Some(text) => Ok(text),
-        None => Err(Status::NotText),
-    }
+    bytes::text_of(bytes).ok_or(Status::NotText)
 }

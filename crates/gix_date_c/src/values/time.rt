@@ -1,6 +1,6 @@
 //! A time as C has it.
 ghost use Rattle.std.specs.Prelude.{◌≡◌};
-ghost use Rattle.gix_date_c.specs.Values.Times.{load_time, StoresTime, time_for_c};
+ghost use Rattle.gix_date_c.specs as Spec;
 
 use crate::values::status::Status;
 use crate::values::store::store;
@@ -16,14 +16,14 @@ pub struct CTime {
 
 /// A time of C as one of the library.
 pub(crate) fn load_time(time: &CTime) -> Time
-    ensures { result ≡ load_time time.now }
+    ensures { result ≡ Spec.load_time time.now }
 {
     Time::new(time.seconds, time.offset)
 }
 
 /// A time of the library as C has it.
 pub(crate) fn time_for_c(time: Time) -> CTime
-    ensures { result ≡ time_for_c time }
+    ensures { result ≡ Spec.time_for_c time }
 {
     CTime {
         seconds: time.seconds,
@@ -33,7 +33,7 @@ pub(crate) fn time_for_c(time: Time) -> CTime
 
 /// Stores the time of an answer and tells how the call ended. A refusal leaves what is there as it is.
 pub(crate) fn store_time(answer: Result<Time, Status>, time: &mut CTime) -> u32
-    ensures { StoresTime answer time.old time.new result }
+    ensures { Spec.StoresTime answer time.old time.new result }
 {
     store(answer.map(time_for_c), time)
 }

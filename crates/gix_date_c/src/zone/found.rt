@@ -2,11 +2,8 @@
 ghost use Rattle.std.specs.Prelude.{◌≡◌, ◌≤◌, ◌⊎◌, length, Ok, Err, MatchResult};
 ghost use Rattle.std.specs.Result.{result_map_both};
 ghost use Rattle.jiff.specs.Words.{plain_zone};
-ghost use Rattle.gix_date_c.specs.Found.{Finds, IsFound, joined, path_answer, path_of};
-ghost use Rattle.gix_date_c.specs.Moments.{IsZoneWithoutFile};
-ghost use Rattle.gix_date_c.specs.Values.Buffers.{Outcome, as_usize, outcome_of, text_outcome, with_text};
-ghost use Rattle.gix_date_c.specs.Values.Statuses.{number_of};
 ghost use Rattle.gix_date_c.specs.declared.values.status.Status.TheVariants.{Memory};
+ghost use Rattle.gix_date_c.specs as Spec;
 
 use crate::moment::table_of;
 use crate::values::buffer::put_at;
@@ -35,7 +32,7 @@ pub extern "C" fn gix_date_zone_path(
     out: &mut [u8],
     len: &mut usize,
 ) -> u32
-    ensures { record { bytes = out.new; len = len.new; status = result } ≡ outcome_of (path_answer tz.now tzdir.now) out.old }
+    ensures { Spec.outcome out.new len.new result ≡ Spec.outcome_of (Spec.path_answer tz.now tzdir.now) out.old }
 {
     match path_of(tz, tzdir) {
         Ok(path) => {
@@ -57,7 +54,7 @@ pub extern "C" fn gix_date_zone_named(
     file: &[u8],
     zone: &mut CZone,
 ) -> u32
-    ensures { Finds tz.now file.now zone.old zone.new result }
+    ensures { Spec.Finds tz.now file.now zone.old zone.new result }
 {
     match boxed(alloc, tz, file) {
         Ok(held) => {
@@ -70,15 +67,15 @@ pub extern "C" fn gix_date_zone_named(
 
 /// What is found, in a box.
 fn boxed(alloc: Global, tz: &[u8], file: &[u8]) -> Result<Box<Held>, Status>
-    ensures { MatchResult result (λ held. IsFound tz.now file.now (Ok held.value))
-        (λ status. IsFound tz.now file.now (Err status) ⊎ (status ≡ Memory)) }
+    ensures { MatchResult result (λ held. Spec.IsFound tz.now file.now (Ok held.value))
+        (λ status. Spec.IsFound tz.now file.now (Err status) ⊎ (status ≡ Memory)) }
 {
     in_box(alloc, found(alloc, tz, file)?)
 }
 
 /// The zone of a file, or else what a value of `TZ` means without one.
 fn found(alloc: Global, tz: &[u8], file: &[u8]) -> Result<Held, Status>
-    ensures { IsFound tz.now file.now result }
+    ensures { Spec.IsFound tz.now file.now result }
 {
     if file.is_empty() {
         return Ok(Held::Rule(zone_left(tz)?));
@@ -88,17 +85,14 @@ fn found(alloc: Global, tz: &[u8], file: &[u8]) -> Result<Held, Status>
 
 /// The zone that a value of `TZ` means where no file says it.
 fn zone_left(tz: &[u8]) -> Result<TimeZone<'static>, Status>
-    ensures { IsZoneWithoutFile tz.now (result_map_both plain_zone (λ status. status) result) }
+    ensures { Spec.IsZoneWithoutFile tz.now (result_map_both plain_zone (λ status. status) result) }
 {
-    match zone_without_file(utf8_text(tz)?) {
-        Some(zone) => Ok(zone),
-        None => Err(Status::InvalidZone),
-    }
+    zone_without_file(utf8_text(tz)?).ok_or(Status::InvalidZone)
 }
 
 /// The path of the file that says the zone.
 fn path_of<'a>(tz: &'a [u8], tzdir: &'a [u8]) -> Result<Path<'a>, Status>
-    ensures { result_map_both path_of (λ status. status) result ≡ path_answer tz.now tzdir.now }
+    ensures { result_map_both Spec.path_of (λ status. status) result ≡ Spec.path_answer tz.now tzdir.now }
 {
     let Some(name) = zone_file(utf8_text(tz)?) else {
         return Ok(Path::below("", ""));
@@ -110,7 +104,7 @@ fn path_of<'a>(tz: &'a [u8], tzdir: &'a [u8]) -> Result<Path<'a>, Status>
 impl<'a> Path<'a> {
     /// The path of a name below a folder.
     fn below(folder: &'a str, name: &'a str) -> Path<'a>
-        ensures { path_of result ≡ joined folder.now name.now }
+        ensures { Spec.path_of result ≡ Spec.joined folder.now name.now }
     {
         let mark = if folder.is_empty() { "" } else { "/" };
         Path { folder, mark, name }
@@ -118,7 +112,7 @@ impl<'a> Path<'a> {
 
     /// How many bytes it has. No memory holds a path for which the sum is not exact.
     fn len(self) -> usize
-        ensures { result ≡ as_usize (length (path_of self.entry)) }
+        ensures { result ≡ Spec.as_usize (length (Spec.path_of self.entry)) }
     {
         self.folder
             .len()
@@ -130,10 +124,10 @@ impl<'a> Path<'a> {
     fn store(self, out: &mut [u8]) -> Status
         ensures { record {
           bytes = out.new;
-          len = as_usize (length (path_of self.entry));
-          status = number_of result;
+          len = Spec.as_usize (length (Spec.path_of self.entry));
+          status = Spec.number_of result;
         }
-            ≡ text_outcome (path_of self.entry) out.old }
+            ≡ Spec.text_outcome (Spec.path_of self.entry) out.old }
     {
         if self.len() > out.len() {
             return Status::NoRoom;
@@ -142,9 +136,10 @@ impl<'a> Path<'a> {
         Status::Done
     }
 
+    #[tactic(auto, using(crate::proofs::Pieces::three_put))]
     fn put(self, out: &mut [u8])
-        requires { length (path_of self) ≤ length out.old }
-        ensures { out.new ≡ with_text (path_of self.entry) out.old }
+        requires { length (Spec.path_of self) ≤ length out.old }
+        ensures { out.new ≡ Spec.with_text (Spec.path_of self.entry) out.old }
     {
         let mark = put_at(out, 0, self.folder);
         let name = put_at(out, mark, self.mark);

@@ -2,8 +2,8 @@
 ghost use Rattle.std.specs.Prelude.{◌≡◌, MatchResult};
 ghost use Rattle.std.specs.Result.{result_map_both};
 ghost use Rattle.jiff.specs.Words.{plain_zone};
-ghost use Rattle.gix_date_c.specs.Zones.{IsCopy, IsHeld, IsHeldZone, is_file};
 ghost use Rattle.gix_date_c.specs.declared.values.status.Status.TheVariants.{Memory};
+ghost use Rattle.gix_date_c.specs as Spec;
 
 use crate::moment::{table_of, text_zone};
 use crate::values::status::Status;
@@ -21,7 +21,7 @@ pub enum Held {
 impl Held {
     /// What a text names: a TZif file, or else what the text means by itself.
     pub(crate) fn of(alloc: Global, text: &[u8]) -> Result<Held, Status>
-        ensures { IsHeld (is_file text.now) text.now result }
+        ensures { Spec.IsHeld (Spec.is_file text.now) text.now result }
     {
         if is_file(text) {
             return Ok(Held::Table(shared(alloc, table_of(alloc, text)?)?));
@@ -31,7 +31,7 @@ impl Held {
 
     /// The same zone once more.
     pub(crate) fn copied(&self) -> Result<Held, Status>
-        ensures { MatchResult result (IsCopy self.now) (λ status. status ≡ Memory) }
+        ensures { MatchResult result (Spec.IsCopy self.now) (λ status. status ≡ Memory) }
     {
         match self {
             Held::Rule(zone) => Ok(Held::Rule(*zone)),
@@ -43,8 +43,9 @@ impl Held {
     }
 
     /// The zone itself.
+    #[tactic(auto, using(crate::proofs::Named::lent_zone))]
     pub(crate) fn zone(&self) -> TimeZone<'_>
-        ensures { IsHeldZone self.now (plain_zone result) }
+        ensures { Spec.IsHeldZone self.now (plain_zone result) }
     {
         match self {
             Held::Rule(zone) => *zone,
@@ -57,15 +58,12 @@ impl Held {
 pub(crate) fn shared(alloc: Global, table: Tzif) -> Result<Arc<Tzif>, Status>
     ensures { MatchResult result (λ shared. shared.value ≡ table) (λ status. status ≡ Memory) }
 {
-    match Arc::new(alloc, table) {
-        Ok(shared) => Ok(shared),
-        Err(_) => Err(Status::Memory),
-    }
+    Arc::new(alloc, table).map_err(|_| Status::Memory)
 }
 
 /// Whether a text is that of a TZif file, by its first bytes.
 fn is_file(text: &[u8]) -> bool
-    ensures { result ≡ is_file text.now }
+    ensures { result ≡ Spec.is_file text.now }
 {
     text.starts_with(b"TZif")
 }

@@ -1,15 +1,13 @@
 //! What a call asks of a zone that C shows.
-ghost use Rattle.std.specs.Prelude.{◌≡◌, MatchResult, Ok, IsTrue};
+ghost use Rattle.std.specs.Prelude.{◌≡◌, MatchResult, IsTrue};
 ghost use Rattle.std.specs.Result.{result_map_both};
-ghost use Rattle.jiff.specs.Types.{TimeZone as Zone};
 ghost use Rattle.jiff.specs.Words.{plain_zone};
-ghost use Rattle.gix_date_c.specs.Moments.{IsNow};
-ghost use Rattle.gix_date_c.specs.Zones.{IsShown, IsTakenCopy};
 ghost use Rattle.gix_date_c.specs.declared.values.status.Status.TheVariants.{Memory};
+ghost use Rattle.gix_date_c.specs as Spec;
 
+use crate::handle::ShownZone;
 use crate::moment::{CInstant, moment_in, offset_zone};
 use crate::values::status::Status;
-use crate::zone::lent::ShownZone;
 use crate::zone::{TakenZone, in_box};
 use gix_date::Zoned;
 use jiff::tz::TimeZone;
@@ -17,9 +15,10 @@ use std::alloc::Global;
 
 impl ShownZone {
     /// Whether there is the zone.
+    #[tactic(auto, using(gix_date::proofs::Text::Ints::held, crate::proofs::Named::held_found, crate::proofs::Named::offset_found))]
     #[inline(always)]
     pub(crate) fn is_zone(&self) -> bool
-        ensures { IsTrue result → (zone : Zone) × IsShown self.now (Ok zone) }
+        ensures { IsTrue result → Spec.HasZone self.now }
     {
         if self.holds() {
             return true;
@@ -29,14 +28,14 @@ impl ShownZone {
 
     /// The moment of an instant in the zone.
     pub(crate) fn moment(&self, instant: &CInstant) -> Result<Zoned<'_>, Status>
-        ensures { IsNow (IsShown self.now) instant.now result }
+        ensures { Spec.IsNow (Spec.IsShown self.now) instant.now result }
     {
         moment_in(instant, self.zone())
     }
 
     /// The zone itself.
     pub(crate) fn zone(&self) -> Result<TimeZone<'_>, Status>
-        ensures { IsShown self.now (result_map_both plain_zone (λ status. status) result) }
+        ensures { Spec.IsShown self.now (result_map_both plain_zone (λ status. status) result) }
     {
         match self.held() {
             Some(held) => Ok(held.zone()),
@@ -46,7 +45,7 @@ impl ShownZone {
 
     /// The same zone once more, out of C's hands.
     pub(crate) fn copied(&self, alloc: Global) -> Result<TakenZone, Status>
-        ensures { MatchResult result (IsTakenCopy self.now) (λ status. status ≡ Memory) }
+        ensures { MatchResult result (Spec.IsTakenCopy self.now) (λ status. status ≡ Memory) }
     {
         let held = match self.held() {
             Some(held) => Some(in_box(alloc, held.copied()?)?),

@@ -2,12 +2,9 @@
 ghost use Rattle.std.specs.Prelude.{◌≡◌, None, Some, option_map};
 ghost use Rattle.gix_date_c.specs.Handles.{kind_of};
 
-use crate::zone::handle::Handle;
+use crate::handle::{HOLDS, Handle};
 use crate::zone::held::Held;
 use std::alloc::Global;
-
-/// The kind of a zone that holds one. What memory has by chance is another.
-pub(crate) const HOLDS: u32 = 0x7a6f_6e65;
 
 /// A zone that C holds: `struct gix_date_zone`. All zero it is UTC. Where nothing is held it always has the offset.
 #[repr(C)]

@@ -21,14 +21,14 @@ use Rattle.gix_date.proofs.Relative.RelativeReading.{pairs_are_read}
 use Rattle.gix_date.proofs.Relative.RelativeScans.{scan, verdict_of}
 use Rattle.gix_date.proofs.Relative.RolePlaces.{meant}
 use Rattle.gix_date.proofs.Text.WordsWithin.{AreGaps, none-of-empty as no-words, skip-gaps, one-gap}
-use Rattle.gix_date.specs.Careful.Grammar.{AreSeparators, IsWordGap, Piece, AreSeparated, joined_pieces, words_of, IsCountAndUnit, GoesOn, ArePairsAgo, IsCarefulOf}
+use Rattle.gix_date.specs.Careful.Grammar.{AreSeparators, IsWordGap, WordPiece, AreSeparated, joined_pieces, words_of, IsCountAndUnit, GoesOn, ArePairsAgo, IsCarefulOf}
 use Rattle.gix_date_laws.proofs.Shared.Agreement.{comes_first}
 use Rattle.gix_date_laws.proofs.Clear.Counts.{count-plain, count-word, and-counts, and-no-word}
 use Rattle.gix_date_laws.proofs.Clear.NoGit.{no-git}
 use Rattle.gix_date_laws.proofs.Clear.Pieces.{no-letter, no-letter-gap}
 use Rattle.gix_date_laws.proofs.Clear.Units.{named-unit}
 use Rattle.gix_date_laws.proofs.Clear.Words.{is-unit}
-use Rattle.gix_date_laws.proofs.Pairs.Grammar.{relative-spelled}
+use Rattle.gix_date_laws.proofs.Pairs.{relative-spelled}
 use Rattle.gix_date.proofs.Fields.FieldsTaken.{none-unless}
 
 -- The words of the text are those of its pieces.
@@ -39,11 +39,11 @@ separators-gaps : (gap : List ℕ) → AreSeparators gap → AreGaps gap
 separators-gaps [] h = tt
 separators-gaps (b ∷ gap) h = (is-gap b (no-letter b h.0), separators-gaps gap h.1)
 
-after-gap : (x gap : List ℕ) (pieces : List Piece) → IsWordGap gap → ((gap ≡ []) → pieces ≡ []) → relative_words (joined_pieces pieces) ≡ words_of pieces → relative_words (x ++ (gap ++ joined_pieces pieces)) ≡ relative_words x ++ words_of pieces
+after-gap : (x gap : List ℕ) (pieces : List WordPiece) → IsWordGap gap → ((gap ≡ []) → pieces ≡ []) → relative_words (joined_pieces pieces) ≡ words_of pieces → relative_words (x ++ (gap ++ joined_pieces pieces)) ≡ relative_words x ++ words_of pieces
 after-gap x [] pieces h last more = grind (arith, append-nil)
 after-gap x (b ∷ gap) pieces h last more = grind (arith, one-gap, is-gap, no-letter-gap, skip-gaps, separators-gaps)
 
-pieces-words : (pieces : List Piece) → AreSeparated pieces → relative_words (joined_pieces pieces) ≡ words_of pieces
+pieces-words : (pieces : List WordPiece) → AreSeparated pieces → relative_words (joined_pieces pieces) ≡ words_of pieces
 pieces-words [] h = no-words
 pieces-words (([], gap) ∷ pieces) h = absurd h.0
 pieces-words ((c ∷ tail, gap) ∷ pieces) h =

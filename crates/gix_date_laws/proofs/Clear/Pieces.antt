@@ -7,7 +7,7 @@ use Rattle.std.specs.List.{prefix_len, list_all}
 use Rattle.std.specs.Prelude.{◌&&◌, ◌||◌, ◌==◌}
 use Rattle.gix_date.specs.Careful.Texts.{ends_in_ago, is_separator, may_stand_after}
 use Rattle.gix_date.specs.Text.Characters.{minus}
-use Rattle.gix_date.specs.Careful.Grammar.{IsSeparator, AreSeparators, IsWordGap, Piece, AreSeparated, joined_pieces, words_of}
+use Rattle.gix_date.specs.Careful.Grammar.{IsSeparator, AreSeparators, IsWordGap, WordPiece, AreSeparated, joined_pieces, words_of}
 use Rattle.gix_date_laws.proofs.Clear.Scan.{first_word, fits, next, scan}
 
 is-separator : (b : ℕ) → IsSeparator b → is_separator b ≡ true
@@ -24,7 +24,7 @@ no-letter-gap b (inr e) = ap is_ascii_alphanumeric e
 record Inside (text : List ℕ) : Type 0 where
   tail : List ℕ
   gap : List ℕ
-  pieces : List Piece
+  pieces : List WordPiece
   whole : text ≡ tail ++ (gap ++ joined_pieces pieces)
   letters : list_all is_ascii_alphanumeric tail ≡ true
   is_gap : IsWordGap gap
@@ -33,7 +33,7 @@ record Inside (text : List ℕ) : Type 0 where
 
 pub record Outside (text : List ℕ) : Type 0 where
   pub front : List ℕ
-  pub pieces : List Piece
+  pub pieces : List WordPiece
   pub whole : text ≡ front ++ joined_pieces pieces
   pub separated : AreSeparators front
   pub apart : AreSeparated pieces
@@ -58,7 +58,7 @@ passes-by before after c rest false e h = let is = rw e at h in rw e is
 or-false : (c : ℕ) → (is_separator c || (c == minus && false)) ≡ true → is_separator c ≡ true
 or-false c h = grind (arith, nat_tests, h)
 
-no-nil : (c : ℕ) (t : List ℕ) (ps : List Piece) → (c ∷ t) ≡ [] → ps ≡ []
+no-nil : (c : ℕ) (t : List ℕ) (ps : List WordPiece) → (c ∷ t) ≡ [] → ps ≡ []
 no-nil c t ps e = absurd cc
 
 found-next : (after : Bool) (c : ℕ) (rest : List ℕ) (a : Bool) → is_ascii_alphanumeric c ≡ a → passes after c ≡ true → Found a rest → Found after (c ∷ rest)
@@ -158,16 +158,16 @@ past-word before c tail rest h o =
     ∙ ap (λ (w : List ℕ). may_stand_after before w && scan (Some w) true (tail ++ rest)) (word-front (c ∷ tail) rest h o)
     ∙ ap (λ (b : Bool). may_stand_after before (c ∷ tail) && b) (past-letters (Some (c ∷ tail)) tail rest parts.1)
 
-outside : (gap : List ℕ) (pieces : List Piece) → IsWordGap gap → ((gap ≡ []) → pieces ≡ []) → BeginsOutside (gap ++ joined_pieces pieces)
-outside [] pieces h last = subst (λ (ps : List Piece). BeginsOutside (joined_pieces ps)) (sym (last refl)) tt
+outside : (gap : List ℕ) (pieces : List WordPiece) → IsWordGap gap → ((gap ≡ []) → pieces ≡ []) → BeginsOutside (gap ++ joined_pieces pieces)
+outside [] pieces h last = subst (λ (ps : List WordPiece). BeginsOutside (joined_pieces ps)) (sym (last refl)) tt
 outside (c ∷ gap) pieces h last = no-letter-gap c h.0
 
-after-word : (word gap : List ℕ) (pieces : List Piece) → IsWordGap gap → ((gap ≡ []) → pieces ≡ []) → scan (Some word) false (joined_pieces pieces) ≡ chain (Some word) (words_of pieces)
+after-word : (word gap : List ℕ) (pieces : List WordPiece) → IsWordGap gap → ((gap ≡ []) → pieces ≡ []) → scan (Some word) false (joined_pieces pieces) ≡ chain (Some word) (words_of pieces)
     → scan (Some word) true (gap ++ joined_pieces pieces) ≡ chain (Some word) (words_of pieces)
 after-word word [] pieces h last more = grind (arith, scan)
 after-word word (c ∷ gap) pieces h last more = past-gap (Some word) c gap (joined_pieces pieces) h ∙ more
 
-pieces-scan : (before : Option (List ℕ)) (pieces : List Piece) → AreSeparated pieces → scan before false (joined_pieces pieces) ≡ chain before (words_of pieces)
+pieces-scan : (before : Option (List ℕ)) (pieces : List WordPiece) → AreSeparated pieces → scan before false (joined_pieces pieces) ≡ chain before (words_of pieces)
 pieces-scan before [] h = refl
 pieces-scan before (([], gap) ∷ pieces) h = absurd h.0
 pieces-scan before ((c ∷ tail, gap) ∷ pieces) h =
@@ -175,5 +175,5 @@ pieces-scan before ((c ∷ tail, gap) ∷ pieces) h =
     ∙ ap (λ b. may_stand_after before (c ∷ tail) && b) (after-word (c ∷ tail) gap pieces h.1 h.2 (pieces-scan (Some (c ∷ tail)) pieces h.3))
 
 -- a text so cut is passed where its words may stand so
-pub scan-is : (front : List ℕ) (pieces : List Piece) → AreSeparators front → AreSeparated pieces → scan None false (front ++ joined_pieces pieces) ≡ chain None (words_of pieces)
+pub scan-is : (front : List ℕ) (pieces : List WordPiece) → AreSeparators front → AreSeparated pieces → scan None false (front ++ joined_pieces pieces) ≡ chain None (words_of pieces)
 scan-is front pieces s a = past-separators None front (joined_pieces pieces) s ∙ pieces-scan None pieces a

@@ -142,6 +142,10 @@ is-form : (text : List ℕ) (t : Time) → IsGitText text t → git_form (trim t
 unfolding git_form
 is-form text t h = rw (front-of (trim text) h.day h.gap h.rest h.date h.whole h.front) (rest-of text t h)
 
-pub git-spelled : Accepts git_time IsGitText
+-- Git's own forms hold the texts that are written so, and no others
+pub record GitIsSpelled : Type 0 where
+  pub accepts : Accepts git_time IsGitText
+
+pub git_spelled : GitIsSpelled
 unfolding git_time
-git-spelled text t = (form-is text t, is-form text t)
+git_spelled = record { accepts = λ text t. (form-is text t, is-form text t) }

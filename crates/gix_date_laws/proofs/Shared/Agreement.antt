@@ -15,10 +15,10 @@ use Rattle.std.specs.Option.{option_or}
 use Rattle.std.specs.Prelude.{◌==◌, ◌&&◌, nat_lt, not}
 use Rattle.std.specs.Str.{all_ascii_digits, trim, trim_start, trim_end, skip_leading_whitespace, drop_trailing_whitespace}
 use Rattle.gix_date.specs.Families.Answer.{FamilyAnswer, Absolute}
-use Rattle.gix_date.specs.Families.Laws.{Agree, ComesFirst, Holds}
+use Rattle.gix_date.specs.Families.Laws.{Agree, ComesFirst, HasOneOutcome, Holds}
 use Rattle.gix_date.specs.Families.Order.{Iso8601, Iso8601Strict, GitForm, RelativeText, family_answer, first_family_by}
 use Rattle.gix_date.specs.Families.Patterns.{date_answer, iso8601_answer, iso8601_strict_answer, max_date_offset}
-use Rattle.gix_date.specs.Families.Raw.{OffsetRule}
+use Rattle.gix_date.specs.Families.Raw.{OffsetRule, is_quarter_offset}
 use Rattle.gix_date.specs.Fields.FieldTexts.{AreDigits, IsPair, IsSign, IsField, AreSpaces, IsPlainDate, IsClock}
 use Rattle.gix_date.specs.Fields.Civil.{civil_instant}
 use Rattle.gix_date.specs.Fields.DateFields.{read_plain_date}
@@ -37,6 +37,7 @@ use Rattle.gix_date.proofs.Text.AsciiCuts.{ascii-by, space_is_ascii, all-append}
 use Rattle.gix_date.proofs.Git.ClockCuts.{space_low}
 use Rattle.gix_date.proofs.Git.ClockParts.{before_none}
 use Rattle.gix_date.proofs.Families.Disjoint.{digit_visible}
+use Rattle.gix_date.proofs.Relative.Chains.{one-outcome}
 use Rattle.gix_date.proofs.Families.Exclusive.{answered, absolute, alone-first, differ, drop-visible, space-white, field-visible, digits-visible, visible-append}
 use Rattle.gix_date.proofs.Fields.FieldsRead.{Begins, BeginsNot, begins-append, field-begins, year-begins, date-read, gap-front}
 use Rattle.gix_date.proofs.Git.Fronts.{gap-taken}
@@ -477,6 +478,14 @@ strict-git rule text hi hg =
     let same = both-say s.are.front lead.front clock.front [] zone.front s.time.date s.time.clock z.fields u.0 a.0 s.are.is (inr lead.is) clock.is refl z.zone (ap git_time (sym split) ∙ u.1) (ap (date_answer s.time.date s.time.clock) (sym z.is) ∙ s.comes) in
     a.1 ∙ ap (λ (r : FamilyAnswer). Some r) same ∙ sym (ap (option_map Absolute) u.1)
 
+pub iso8601_git : (text : List ℕ) → is_some (iso8601_answer text) ≡ true → is_some (option_map Absolute (git_time text)) ≡ true
+    → iso8601_answer text ≡ option_map Absolute (git_time text)
+iso8601_git text h k = iso8601-git is_quarter_offset text h k
+
+pub strict_git : (text : List ℕ) → is_some (iso8601_strict_answer text) ≡ true → is_some (option_map Absolute (git_time text)) ≡ true
+    → iso8601_strict_answer text ≡ option_map Absolute (git_time text)
+strict_git text h k = strict-git is_quarter_offset text h k
+
 -- So what a Git text says is what the first family says, whether or not ISO 8601 or its strict form holds it too.
 git-says : (rule : OffsetRule) (text : List ℕ) → IsUtf8 text → Holds rule GitForm text
     → first_family_by rule text ≡ family_answer rule GitForm text
@@ -492,3 +501,10 @@ git-says rule text u h = by (iso8601_answer text) (iso8601_strict_answer text) r
 
 pub comes_first : (rule : OffsetRule) (text : List ℕ) → IsUtf8 text → ComesFirst rule text
 comes_first rule text u = grind (arith, alone-first, git-says, relative-first, counting)
+
+-- the answer of the first family and the moment have one result
+pub record OutcomesAreOne : Type 0 where
+  pub once : HasOneOutcome
+
+pub one_outcome : OutcomesAreOne
+one_outcome = record { once = one-outcome }

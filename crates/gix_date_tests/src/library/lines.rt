@@ -1,7 +1,7 @@
 //! The lines of bytes, and those at their front that have the usual form.
-use gix_date_lines::usual::{MAX_HEADER, canonical_line, unknown_line};
-use gix_date_lines::{first_line, split_line};
 use std::test::Fail;
+use streams::usual::{MAX_HEADER, canonical_line, unknown_line};
+use streams::{first_line, split_line};
 
 #[test]
 fn a_line_ends_at_its_first_newline(rt: HostRuntime) {

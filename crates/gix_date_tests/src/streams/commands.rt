@@ -69,13 +69,13 @@ fn the_program_ends_with_status_1_on_a_fault(rt: HostRuntime) -> Result<(), Fail
 
 #[test]
 fn an_unwritten_usage_line_is_said(rt: HostRuntime) -> Result<(), Fail> {
-    let mut cut = Device::new(Slow::new(rt.alloc(), 9, 5, ErrorKind::BrokenPipe));
+    let mut cut = Device::new(Slow::new(rt.alloc(), 9, 5, ErrorKind::StorageFull));
     let mut messages = Device::new(Slow::roomy(rt.alloc()));
     assert!(rt; show_usage(&mut cut, &mut messages) == Status::Failure);
     assert!(rt; cut.into_inner().taken.as_slice() == b"usage".as_slice());
     assert!(rt;
         messages.into_inner().taken.as_slice()
-            == b"gix_date_tool: writing failed: broken pipe\n".as_slice()
+            == b"gix_date_tool: writing failed: no storage space\n".as_slice()
     );
     let mut whole = Device::new(Slow::roomy(rt.alloc()));
     let mut messages = Device::new(Slow::roomy(rt.alloc()));

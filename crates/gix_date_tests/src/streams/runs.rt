@@ -36,8 +36,8 @@ fn dates_are_read_from_the_moment_that_is_handed_in(rt: HostRuntime) {
 
 #[test]
 fn replies_are_written_before_more_is_read(rt: HostRuntime) {
-    // The last row fills each piece of 65536 bytes.
-    for (lines, lines_a_call, calls) in [(40, 1, 41), (41, 3, 15), (24576, 8192, 4)] {
+    // The last row fills each piece of 16384 bytes.
+    for (lines, lines_a_call, calls) in [(40, 1, 41), (41, 3, 15), (6144, 2048, 4)] {
         let replied = Cell::new(0);
         let mut source = Device::new(Asking::new(lines, lines_a_call, &replied));
         let mut sink = Device::new(Replied(&replied));

@@ -2,9 +2,9 @@
 use crate::fakes::words::CommandLine;
 use crate::fakes::{Dribble, Slow, take_all};
 use gix_date::device::Device;
-use gix_date_tool::{put_pieces, words};
 use std::io::ErrorKind;
 use std::test::Fail;
+use streams::{put_pieces, words};
 
 /// More than any first guess of a word's length.
 const LONG: [u8; 5000] = [b'x'; 5000];

@@ -1,6 +1,6 @@
 //! What the program says of itself.
 ghost use Rattle.std.specs.Prelude.{◌≡◌, map, option_map, string_bytes};
-ghost use Rattle.gix_date_tool.specs.Program.{printed_of, text_named};
+ghost use Rattle.gix_date_tool.specs as Spec;
 
 /// The version of this repository, which `test_all` compares with that of the library for C.
 pub(crate) const VERSION: &str = "gix_date_tool 2.0.0\n";
@@ -44,7 +44,7 @@ For more than 1000000 lines: split -l 1000000 --filter='gix_date_tool MODE' FILE
 
 /// The text that the words ask for: the first of them does, whatever follows it.
 pub(crate) fn text_asked(words: &[String]) -> Option<&'static str>
-    ensures { option_map (λ text. text.now) result ≡ printed_of (map string_bytes words.now) }
+    ensures { option_map (λ text. text.now) result ≡ Spec.printed_of (map string_bytes words.now) }
 {
     match words {
         [word, ..] => text_named(word.as_str()),
@@ -54,7 +54,7 @@ pub(crate) fn text_asked(words: &[String]) -> Option<&'static str>
 
 /// The text that a word asks for.
 fn text_named(word: &str) -> Option<&'static str>
-    ensures { option_map (λ text. text.now) result ≡ text_named word.now }
+    ensures { option_map (λ text. text.now) result ≡ Spec.text_named word.now }
 {
     if word == "--help" || word == "-h" {
         Some(HELP)

@@ -1,6 +1,6 @@
 //! How the program ends.
-use crate::error::ToolError;
 use crate::program::arguments::WrongWords;
+use streams::ToolError;
 
 /// How the program ends, before its status and message.
 #[derive(Drop)]

@@ -1,18 +1,17 @@
 //! The reply to one line.
 ghost use Rattle.std.specs.Prelude.{◌≡◌, ◌∷◌, []};
-ghost use Rattle.gix_date.specs.Families.Order.{first_family};
-ghost use Rattle.gix_date.specs.Header.Reading.{header_time};
-ghost use Rattle.gix_date_tool.specs.declared.runs.replies.Reply.TheVariants.{Read};
-ghost use Rattle.gix_date_tool.specs.Outbox.{Sends, output};
-ghost use Rattle.gix_date_tool.specs.Replies.{RepliesAreUnique, CanonicalLines, UnchangedLines, Replied, IsReply, IsParseReply, IsSignReply, IsWritable, reply_line, check_reply};
+ghost use Rattle.gix_date_tool.specs.declared.runs.replies.Reply.TheVariants.{Parsed, Read};
+ghost use Rattle.gix_date_tool.specs as Spec;
+ghost use Rattle.gix_date.specs as GixDate;
+ghost use Rattle.streams.specs as Streams;
 
 use crate::program::arguments::Mode;
-use crate::runs::outbox::Outbox;
 use crate::runs::signed::{SignedLine, sign};
 use gix_date::bytes::text_of;
 use gix_date::device::Sink;
 use gix_date::{HeaderKind, ParseError, RawOffsets, Time, Zoned, header_kind, parse_no_alloc};
 use std::io;
+use streams::Outbox;
 
 /// What is asked of each line.
 #[derive(Clone, Copy)]
@@ -52,22 +51,23 @@ pub(crate) enum Reply<'a> {
 
 impl Reply<'_> {
     /// Puts the text of a reply, and a newline, after what is unsent.
+    #[tactic(auto, using(crate::proofs::Sent::date_sent))]
     #[inline(always)]
     pub(crate) fn push_to<W: Sink>(
         self,
         outbox: &mut Outbox,
         out: &mut W,
     ) -> Result<(), io::ErrorKind>
-        requires { IsWritable self }
-        ensures { Sends (output outbox.old (W.known out.old)) (output outbox.new (W.known out.new))
-            (reply_line self.entry) result }
+        requires { Spec.IsWritable self }
+        ensures { Streams.Sends (Streams.output outbox.old (W.known out.old)) (Streams.output outbox.new (W.known out.new))
+            (Spec.reply_line self.entry) result }
     {
         match self {
             Reply::NotText => outbox.push(&["not text\n"], out),
             Reply::NoTime => outbox.push(&["none\n"], out),
             Reply::Canonical => outbox.push(&["canonical\n"], out),
             Reply::Read(time) => push_reading(time, outbox, out),
-            Reply::Parsed(time) => outbox.push_time(time, out),
+            Reply::Parsed(time) => push_time(time, outbox, out),
             Reply::UnknownFormat => outbox.push(&["error unknown-format\n"], out),
             Reply::DateConversion => outbox.push(&["error date-conversion\n"], out),
             Reply::MissingMoment => outbox.push(&["error missing-moment\n"], out),
@@ -78,10 +78,22 @@ impl Reply<'_> {
     }
 }
 
+/// Puts the header text of a time that a line is parsed as after what is unsent.
+#[tactic(auto, using(crate::proofs::Sent::time_sent))]
+fn push_time<W: Sink>(time: Time, outbox: &mut Outbox, out: &mut W) -> Result<(), io::ErrorKind>
+    requires { Spec.IsWritable (Parsed time) }
+    ensures { Streams.Sends (Streams.output outbox.old (W.known out.old)) (Streams.output outbox.new (W.known out.new))
+        (Spec.reply_line (Parsed time)) result }
+{
+    let text = time.to_buf().unwrap();
+    outbox.push(&[text.as_str(), "\n"], out)
+}
+
 /// Puts the seconds and the offset of a time that a line is read as after what is unsent.
+#[tactic(auto, using(crate::proofs::Sent::reading_sent))]
 fn push_reading<W: Sink>(time: Time, outbox: &mut Outbox, out: &mut W) -> Result<(), io::ErrorKind>
-    ensures { Sends (output outbox.old (W.known out.old)) (output outbox.new (W.known out.new))
-        (reply_line (Read time)) result }
+    ensures { Streams.Sends (Streams.output outbox.old (W.known out.old)) (Streams.output outbox.new (W.known out.new))
+        (Spec.reply_line (Read time)) result }
 {
     let mut seconds = itoa::Buffer::new();
     let mut offset = itoa::Buffer::new();
@@ -96,31 +108,35 @@ fn push_reading<W: Sink>(time: Time, outbox: &mut Outbox, out: &mut W) -> Result
 }
 
 /// Each line has at most one reply, in a mode and at a moment.
+#[tactic(auto, using(crate::proofs::Replying::reply_once))]
 pub fn replies_are_unique()
-    ensures { RepliesAreUnique }
+    ensures { Spec.RepliesAreUnique }
 {}
 
 /// In Check the reply to a line is `canonical` iff the line is a canonical header (`is_canonical_header`), whatever the
 /// moment.
+#[tactic(auto, using(crate::proofs::CanonicalLines::canonical_lines))]
 pub fn canonical_lines(line: &[u8])
-    ensures { CanonicalLines line.now }
+    ensures { Spec.CanonicalLines line.now }
 {}
 
 /// In Sign the reply to a line is the line iff it is text, has a cut, and has a canonical header as its time
 /// (`is_canonical_header`), whatever the moment.
+#[tactic(auto, using(crate::proofs::UnchangedLines::unchanged_lines))]
 pub fn unchanged_lines(line: &[u8])
-    ensures { UnchangedLines line.now }
+    ensures { Spec.UnchangedLines line.now }
 {}
 
 /// Puts the reply to a line, and a newline, after what is unsent.
+#[tactic(auto, using(crate::proofs::Sent::not_text_sent, crate::proofs::Sent::check_sent, crate::proofs::Sent::parse_sent, crate::proofs::Sent::sign_sent))]
 pub(crate) fn push_reply<W: Sink>(
     query: &Query,
     line: &[u8],
     outbox: &mut Outbox,
     out: &mut W,
 ) -> Result<(), io::ErrorKind>
-    ensures { Replied (λ text. Sends (output outbox.old (W.known out.old)) (output outbox.new (W.known out.new)) text result)
-        query.entry.now (line.now ∷ []) }
+    ensures { Spec.SendsReply (Streams.output outbox.old (W.known out.old)) (Streams.output outbox.new (W.known out.new))
+        query.entry.now line.now result }
 {
     let Some(text) = text_of(line) else {
         return Reply::NotText.push_to(outbox, out);
@@ -135,8 +151,8 @@ pub(crate) fn push_reply<W: Sink>(
 /// Whether a text is a header text that comes back when it is read and written, and else what it is read as.
 #[inline(always)]
 fn check_reply(text: &str) -> Reply<'static>
-    ensures is { result ≡ check_reply text.now }
-    ensures writable { IsWritable result }
+    ensures is { result ≡ Spec.check_reply text.now }
+    ensures writable { Spec.IsWritable result }
 {
     match header_kind(text) {
         HeaderKind::Canonical => Reply::Canonical,
@@ -146,10 +162,11 @@ fn check_reply(text: &str) -> Reply<'static>
 }
 
 /// The time that a text is parsed as, or why it is not.
+#[tactic(auto, using(crate::proofs::Replying::parsed_is, gix_date::proofs::Header::HeaderTexts::fitting_has_text))]
 #[inline(always)]
 fn parse_reply(text: &str, now: Option<Zoned<'static>>) -> Reply<'static>
-    ensures is { IsParseReply (first_family text.now) now.entry result }
-    ensures writable { IsWritable result }
+    ensures is { Spec.IsParseReply (GixDate.first_family text.now) now.entry result }
+    ensures writable { Spec.IsWritable result }
 {
     match parse_no_alloc(text, now, RawOffsets::Quarter) {
         Ok(time) => Reply::Parsed(time),
@@ -161,9 +178,10 @@ fn parse_reply(text: &str, now: Option<Zoned<'static>>) -> Reply<'static>
 }
 
 /// The line that is written of a signature line's parts, or that there is none.
+#[tactic(auto, unfolding(crate::specs::IsSignReply))]
 fn sign_reply(text: &str) -> Reply<'_>
-    ensures is { IsSignReply text.now result }
-    ensures writable { IsWritable result }
+    ensures is { Spec.IsSignReply text.now result }
+    ensures writable { Spec.IsWritable result }
 {
     match sign(text) {
         Some(line) => Reply::Signed(line),

@@ -1,15 +1,15 @@
 //! A signature line as it is written again.
 ghost use Rattle.std.specs.Prelude.{MatchOption};
-ghost use Rattle.gix_date_tool.specs.Lines.{with_newline};
-ghost use Rattle.gix_date_tool.specs.Outbox.{Sends, output};
 ghost use Rattle.gix_date_tool.specs.Signed.{IsSigned, IsUnsigned};
+ghost use Rattle.streams.specs.Lines.{with_newline};
+ghost use Rattle.streams.specs.Outbox.{Sends, output};
 
-use crate::runs::outbox::Outbox;
 use gix_date::device::Sink;
 use gix_date::parsing::TimeBuf;
-use gix_signature::{SignatureRef, laws};
+use gix_signature::SignatureRef;
 use std::io;
 use std::marker::Model;
+use streams::Outbox;
 
 /// The line of a name, an email and the text of a time. Contracts see its text.
 #[derive(Drop)]
@@ -50,12 +50,16 @@ impl SignedLine<'_> {
 
 /// The line that is written of a signature line's name, email and time. `None` where the text has no cut, where no time
 /// is read from its last part, and where the offset of that time is 100 hours or more.
+#[tactic(auto, using(crate::proofs::Signing::no_cut_unsigned, crate::proofs::Signing::no_time_unsigned, crate::proofs::Signing::wide_unsigned))]
 pub(crate) fn sign(text: &str) -> Option<SignedLine<'_>>
     ensures { MatchOption result (IsUnsigned text.now) (IsSigned text.now) }
 {
-    laws::one_cut(text);
-    let signature = SignatureRef::from_line(text)?;
-    let time = signature.time_of()?;
+    let Some(signature) = SignatureRef::from_line(text) else {
+        return None;
+    };
+    let Some(time) = signature.time_of() else {
+        return None;
+    };
     let Ok(time) = time.to_buf() else {
         return None;
     };

@@ -1,5 +1,5 @@
 -- What Git writes of a name, a mail and a time.
-use Rattle.std.specs.Prelude.{◌≡◌, ℕ, ◌||◌, ◌==◌, if◌then◌else◌, int_lt, List, filter, length, pos, Some, Result, Ok, Err, ok_or, option_map}
+use Rattle.std.specs.Prelude.{◌≡◌, ℕ, ◌||◌, ◌==◌, if◌then◌else◌, Bool, true, false, int_lt, List, filter, length, pos, Some, Result, Ok, Err, ok_or, option_map}
 use Rattle.std.specs.List.{list_any, list_all}
 use Rattle.gix_date.specs.Header.Text.{header_text}
 use Rattle.gix_date.specs.Devices.StreamState.{StreamState, Takes, TakesProperPrefix, TakesNothing}
@@ -17,6 +17,15 @@ trimmed part = without_end is_crud (without_front is_crud part)
 -- a name or mail as it is written: without crud at both ends, and then without brackets and line feeds
 abbrev pub cleaned : List ℕ → List ℕ
 cleaned part = filter is_kept (trimmed part)
+
+-- a name or mail as it is put into a sink: as it is, or cleaned
+abbrev pub part_put : Bool → List ℕ → List ℕ
+part_put true part = part
+part_put false part = cleaned part
+
+-- the parts that are put
+abbrev pub parts_put : Bool → List ℕ → List ℕ → List ℕ → Parts
+parts_put is_whole name mail time = record { name = part_put is_whole name; mail = part_put is_whole mail; time = time }
 
 -- the parts to write
 abbrev pub cleaned_parts : List ℕ → List ℕ → List ℕ → Parts

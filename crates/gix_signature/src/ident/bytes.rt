@@ -2,27 +2,26 @@
 ghost use Rattle.std.specs.Prelude.{◌≡◌, ◌==◌, ◌+◌, ◌≤◌, length, drop, not, MatchOption, true, false};
 ghost use Rattle.std.specs.List.{prefix_len, suffix_len, position_or_len, list_any, list_all, before_first, after_first};
 ghost use Rattle.std.specs.Char.{is_ascii_digit};
-ghost use Rattle.gix_date.specs.Text.Characters.{is_space};
-ghost use Rattle.gix_signature.specs.Ident.Texts.{begins_with};
-ghost use Rattle.gix_signature.specs.Ident.Bytes.{is_closing, is_bracket, is_nul, ends_line, is_blank, is_white, is_sign, is_crud, is_kept};
+ghost use Rattle.gix_signature.specs as Spec;
+ghost use Rattle.gix_date.specs as GixDate;
 
 /// A space, tab, line feed or carriage return.
 fn is_blank(byte: u8) -> bool
-    ensures { result ≡ is_blank byte }
+    ensures { result ≡ Spec.is_blank byte }
 {
     matches!(byte, b' ' | b'\t' | b'\n' | b'\r')
 }
 
 /// A blank, a vertical tab or a form feed.
 fn is_white(byte: u8) -> bool
-    ensures { result ≡ is_white byte }
+    ensures { result ≡ Spec.is_white byte }
 {
     matches!(byte, b' ' | b'\t' | b'\n' | b'\r' | 11 | 12)
 }
 
 /// What Git cuts off both ends of a name or mail.
 pub(crate) fn is_crud(byte: u8) -> bool
-    ensures { result ≡ is_crud byte }
+    ensures { result ≡ Spec.is_crud byte }
 {
     matches!(
         byte,
@@ -32,14 +31,14 @@ pub(crate) fn is_crud(byte: u8) -> bool
 
 /// Whether Git keeps a byte of a name or mail between its ends: it leaves out `<`, `>` and line feeds.
 pub fn is_kept(byte: u8) -> bool
-    ensures { result ≡ is_kept byte }
+    ensures { result ≡ Spec.is_kept byte }
 {
     !matches!(byte, b'<' | b'>' | b'\n')
 }
 
 /// How many bytes stand before the first line feed or NUL.
 pub(crate) fn line_len(text: &[u8]) -> usize
-    ensures value { result ≡ position_or_len ends_line text.now }
+    ensures value { result ≡ position_or_len Spec.ends_line text.now }
     ensures within { result ≤ length text.now }
 {
     text.iter()
@@ -49,7 +48,7 @@ pub(crate) fn line_len(text: &[u8]) -> usize
 
 /// How many bytes stand before the first bracket.
 pub(crate) fn bracket_place(text: &[u8]) -> usize
-    ensures value { result ≡ position_or_len is_bracket text.now }
+    ensures value { result ≡ position_or_len Spec.is_bracket text.now }
     ensures within { result ≤ length text.now }
 {
     text.iter()
@@ -67,7 +66,7 @@ pub(crate) fn place_of(text: &[u8], byte: u8) -> usize
 
 /// How many blanks a text begins with.
 pub(crate) fn blanks_len(text: &[u8]) -> usize
-    ensures value { result ≡ prefix_len is_blank text.now }
+    ensures value { result ≡ prefix_len Spec.is_blank text.now }
     ensures within { result ≤ length text.now }
 {
     text.iter().take_while(|b| is_blank(**b)).count()
@@ -75,7 +74,7 @@ pub(crate) fn blanks_len(text: &[u8]) -> usize
 
 /// How many white bytes a text begins with.
 pub(crate) fn white_len(text: &[u8]) -> usize
-    ensures value { result ≡ prefix_len is_white text.now }
+    ensures value { result ≡ prefix_len Spec.is_white text.now }
     ensures within { result ≤ length text.now }
 {
     text.iter().take_while(|b| is_white(**b)).count()
@@ -91,7 +90,7 @@ pub(crate) fn digits_len(text: &[u8]) -> usize
 
 /// How many bytes of crud a text begins with.
 pub(crate) fn crud_len(text: &[u8]) -> usize
-    ensures value { result ≡ prefix_len is_crud text.now }
+    ensures value { result ≡ prefix_len Spec.is_crud text.now }
     ensures within { result ≤ length text.now }
 {
     text.iter().take_while(|b| is_crud(**b)).count()
@@ -99,7 +98,7 @@ pub(crate) fn crud_len(text: &[u8]) -> usize
 
 /// How many bytes that are kept a text begins with.
 pub(crate) fn kept_len(text: &[u8]) -> usize
-    ensures value { result ≡ prefix_len is_kept text.now }
+    ensures value { result ≡ prefix_len Spec.is_kept text.now }
     ensures within { result ≤ length text.now }
 {
     text.iter().take_while(|b| is_kept(**b)).count()
@@ -107,7 +106,7 @@ pub(crate) fn kept_len(text: &[u8]) -> usize
 
 /// How many blanks a text ends with.
 pub(crate) fn last_blanks_len(text: &[u8]) -> usize
-    ensures value { result ≡ suffix_len is_blank text.now }
+    ensures value { result ≡ suffix_len Spec.is_blank text.now }
     ensures within { result ≤ length text.now }
 {
     text.iter().rev().take_while(|b| is_blank(**b)).count()
@@ -115,7 +114,7 @@ pub(crate) fn last_blanks_len(text: &[u8]) -> usize
 
 /// How many bytes of crud a text ends with.
 pub(crate) fn last_crud_len(text: &[u8]) -> usize
-    ensures value { result ≡ suffix_len is_crud text.now }
+    ensures value { result ≡ suffix_len Spec.is_crud text.now }
     ensures within { result ≤ length text.now }
 {
     text.iter().rev().take_while(|b| is_crud(**b)).count()
@@ -123,7 +122,7 @@ pub(crate) fn last_crud_len(text: &[u8]) -> usize
 
 /// How many spaces a text ends with.
 pub(crate) fn last_spaces_len(text: &[u8]) -> usize
-    ensures value { result ≡ suffix_len is_space text.now }
+    ensures value { result ≡ suffix_len GixDate.is_space text.now }
     ensures within { result ≤ length text.now }
 {
     text.iter().rev().take_while(|b| **b == b' ').count()
@@ -131,7 +130,7 @@ pub(crate) fn last_spaces_len(text: &[u8]) -> usize
 
 /// How many bytes stand after the last `>`, or all if there is none.
 pub(crate) fn tail_len(text: &[u8]) -> usize
-    ensures value { result ≡ suffix_len (λ c. not (is_closing c)) text.now }
+    ensures value { result ≡ suffix_len (λ c. not (Spec.is_closing c)) text.now }
     ensures within { result ≤ length text.now }
 {
     text.iter().rev().take_while(|b| **b != b'>').count()
@@ -161,21 +160,21 @@ pub(crate) fn after_first(text: &[u8], byte: u8) -> &[u8]
 /// Whether a text holds NUL.
 #[tactic(auto, using(crate::proofs::Texts::place_within))]
 pub(crate) fn has_nul(text: &[u8]) -> bool
-    ensures { result ≡ list_any is_nul text.now }
+    ensures { result ≡ list_any Spec.is_nul text.now }
 {
     place_of(text, b'\0') < text.len()
 }
 
 /// Whether a text begins with such a byte.
 pub(crate) fn begins_with(text: &[u8], byte: u8) -> bool
-    ensures { result ≡ begins_with (λ c. c == byte) text.now }
+    ensures { result ≡ Spec.begins_with (λ c. c == byte) text.now }
 {
     text.first() == Some(&byte)
 }
 
 /// Whether a text begins with a digit.
 pub(crate) fn begins_with_digit(text: &[u8]) -> bool
-    ensures { result ≡ begins_with is_ascii_digit text.now }
+    ensures { result ≡ Spec.begins_with is_ascii_digit text.now }
 {
     matches!(text, [b'0'..=b'9', ..])
 }
@@ -189,7 +188,7 @@ pub(crate) fn are_digits(text: &[u8]) -> bool
 
 /// Whether a text begins with a sign.
 pub(crate) fn begins_with_sign(text: &[u8]) -> bool
-    ensures { result ≡ begins_with is_sign text.now }
+    ensures { result ≡ Spec.begins_with Spec.is_sign text.now }
 {
     matches!(text, [b'+' | b'-', ..])
 }

@@ -1,10 +1,9 @@
 //! The time that Git makes of a date, and numbers as C reads them.
 ghost use Rattle.std.specs.Prelude.{◌≡◌, ◌≤◌, ◌≤ℤ◌, min, pos, int_lt, if◌then◌else◌, length, IfSome};
-ghost use Rattle.gix_date.specs.Text.Front.{read_view};
 ghost use Rattle.std.specs.Char.{digit_value};
 ghost use Rattle.std.specs.Str.Parse.{digits_value, signed_digits_value};
-ghost use Rattle.gix_signature.specs.Ident.Parts.{date_text_of};
-ghost use Rattle.gix_signature.specs.Ident.Times.{git_time, time_of_git, kept_offset, seconds_shown, held_number, c_number, c_value, number_at_front, without_sign, numbers_of_64_bits};
+ghost use Rattle.gix_signature.specs as Spec;
+ghost use Rattle.gix_date.specs as GixDate;
 
 use crate::error::IdentFault;
 use crate::ident::DateParts;
@@ -33,9 +32,9 @@ impl GitTime {
     /// The time of these seconds, with the offset in seconds. Minutes may be 60 and more: `+0060` is an hour.
     ///
     /// [`IdentFault::OffsetTooWide`] if the offset is more than 35791394 minutes, either way.
-    #[tactic(auto, unfolding(crate::specs::Ident::Times::time_of_git))]
+    #[tactic(auto, unfolding(crate::specs::time_of_git))]
     pub fn to_time(self) -> Result<Time, IdentFault>
-        ensures { result ≡ time_of_git self }
+        ensures { result ≡ Spec.time_of_git self }
     {
         let size = self.offset.unsigned_abs();
         let minutes = size / 100 * 60 + size % 100;
@@ -54,9 +53,9 @@ impl GitTime {
 impl DateParts<'_> {
     /// The time that Git shows of a date. From 2^63 seconds on, seconds and offset are 0. An offset whose decimal number
     /// is below -2147483647 or above 2147483646 is 0.
-    #[tactic(auto, unfolding(crate::specs::Ident::Times::git_time))]
+    #[tactic(auto, unfolding(crate::specs::git_time))]
     pub fn git_time(self) -> GitTime
-        ensures { result ≡ git_time (date_text_of self.entry) }
+        ensures { result ≡ Spec.git_time (Spec.date_text_of self.entry) }
     {
         match seconds_of(self.seconds) {
             Some(seconds) => GitTime {
@@ -73,7 +72,7 @@ impl DateParts<'_> {
 
 /// The seconds that digits write, if they are less than 2^63.
 fn seconds_of(digits: &[u8]) -> Option<i64>
-    ensures { result ≡ seconds_shown (digits_value 10 digits.now) }
+    ensures { result ≡ Spec.seconds_shown (digits_value 10 digits.now) }
 {
     match number(digits) {
         Some(n) if n < TOO_MANY_SECONDS => Some(n as i64),
@@ -83,7 +82,7 @@ fn seconds_of(digits: &[u8]) -> Option<i64>
 
 /// The offset that Git keeps of a sign and digits.
 fn git_offset(text: &[u8]) -> i32
-    ensures { result ≡ kept_offset (signed_digits_value 10 text.now) }
+    ensures { result ≡ Spec.kept_offset (signed_digits_value 10 text.now) }
 {
     match text {
         [b'-', digits @ ..] => -number_to(2_147_483_647, digits),
@@ -106,14 +105,15 @@ fn number_to(most: i32, digits: &[u8]) -> i32
 
 /// The number that digits write, if 64 bits hold it. Takes no memory.
 pub fn number(digits: &[u8]) -> Option<u64>
-    ensures { result ≡ held_number (digits_value 10 digits.now) }
+    ensures { result ≡ Spec.held_number (digits_value 10 digits.now) }
 {
     u64::try_from(counted(digits)).ok()
 }
 
 /// The number that digits write, or 2^64 if it is more.
+#[tactic(auto, using(std::proofs::lemmas::Int::Digits::digits_value_more))]
 fn counted(digits: &[u8]) -> u128
-    ensures { result ≡ min (digits_value 10 digits.now) numbers_of_64_bits }
+    ensures { result ≡ min (digits_value 10 digits.now) Spec.numbers_of_64_bits }
 {
     let mut value = 0u128;
     for digit in digits {
@@ -136,9 +136,9 @@ fn digit_value(byte: u8) -> u8
 }
 
 /// The number that C reads at the front of a text, and what stands after it.
-#[tactic(auto, unfolding(crate::specs::Ident::Times::c_number))]
+#[tactic(auto, unfolding(crate::specs::c_number))]
 pub(crate) fn c_number(text: &[u8]) -> Option<(u64, &[u8])>
-    ensures value { read_view result ≡ c_number text.now }
+    ensures value { GixDate.read_view result ≡ Spec.c_number text.now }
     ensures within { IfSome result (λ found. length found.1.now ≤ length text.now) }
 {
     number_at_front(&text[white_len(text)..])
@@ -146,7 +146,7 @@ pub(crate) fn c_number(text: &[u8]) -> Option<(u64, &[u8])>
 
 /// The number from its sign on.
 fn number_at_front(text: &[u8]) -> Option<(u64, &[u8])>
-    ensures value { read_view result ≡ number_at_front text.now }
+    ensures value { GixDate.read_view result ≡ Spec.number_at_front text.now }
     ensures within { IfSome result (λ found. length found.1.now ≤ length text.now) }
 {
     let digits = without_sign(text);
@@ -159,7 +159,7 @@ fn number_at_front(text: &[u8]) -> Option<(u64, &[u8])>
 
 /// What 64 bits keep of digits, after a minus or not.
 fn c_value(is_negated: bool, digits: &[u8]) -> u64
-    ensures { result ≡ c_value is_negated (digits_value 10 digits.now) }
+    ensures { result ≡ Spec.c_value is_negated (digits_value 10 digits.now) }
 {
     match number(digits) {
         Some(n) if is_negated => n.wrapping_neg(),
@@ -170,7 +170,7 @@ fn c_value(is_negated: bool, digits: &[u8]) -> u64
 
 /// A text without a sign at its front.
 fn without_sign(text: &[u8]) -> &[u8]
-    ensures value { result.now ≡ without_sign text.now }
+    ensures value { result.now ≡ Spec.without_sign text.now }
     ensures within { length result.now ≤ length text.now }
 {
     if begins_with_sign(text) {

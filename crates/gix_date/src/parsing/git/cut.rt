@@ -1,9 +1,8 @@
 //! Where the clock of a Git text ends, and its offset begins.
 ghost use Rattle.std.specs.Prelude.{◌≡◌, ◌<◌, length, IfSome, option_map, slice_index};
-ghost use Rattle.gix_date.specs.Git.ClockCut.{clock_cut, has_offset_at, is_sign, cut_at_sign, last_sign, cut_at_space, cut_at_z};
-ghost use Rattle.gix_date.specs.Git.Cuts.{IsCut};
+ghost use Rattle.gix_date.specs as Spec;
 
-use crate::parsing::space_words::trimmed;
+use crate::parsing::fields::trimmed;
 
 /// The slices of a text, already trimmed, that are its clock and its offset: the first of these cuts that there is.
 ///
@@ -13,16 +12,16 @@ use crate::parsing::space_words::trimmed;
 /// 4. All is the clock, and the offset is empty.
 #[tactic(auto, using(crate::proofs::Git::ClockCuts::cut_means))]
 pub(crate) fn clock_cut(text: &str) -> (&str, &str)
-    ensures value { (result.0.now, result.1.now) ≡ clock_cut text.now }
-    ensures meaning { IsCut text.now result.0.now result.1.now }
+    ensures value { (result.0.now, result.1.now) ≡ Spec.clock_cut text.now }
+    ensures meaning { Spec.IsCut text.now result.0.now result.1.now }
 {
     first_cut(text)
 }
 
 /// The cuts, tried in their order.
-#[tactic(auto, unfolding(crate::specs::Git::ClockCut::clock_cut))]
+#[tactic(auto, unfolding(crate::specs::clock_cut))]
 fn first_cut(text: &str) -> (&str, &str)
-    ensures { (result.0.now, result.1.now) ≡ clock_cut text.now }
+    ensures { (result.0.now, result.1.now) ≡ Spec.clock_cut text.now }
 {
     if let Some(parts) = cut_at_z(text) {
         return parts;
@@ -38,7 +37,7 @@ fn first_cut(text: &str) -> (&str, &str)
 
 #[tactic(auto, using(crate::proofs::Git::ClockCuts::z_found, std::proofs::lemmas::Grind::common_steps, crate::proofs::Git::ClockCuts::z_none))]
 fn cut_at_z(text: &str) -> Option<(&str, &str)>
-    ensures { option_map (λ cut. (cut.0.now, cut.1.now)) result ≡ cut_at_z text.now }
+    ensures { option_map (λ cut. (cut.0.now, cut.1.now)) result ≡ Spec.cut_at_z text.now }
 {
     if text.ends_with('Z') {
         Some((&text[..text.len() - 1], "Z"))
@@ -48,11 +47,9 @@ fn cut_at_z(text: &str) -> Option<(&str, &str)>
 }
 
 fn cut_at_space(text: &str) -> Option<(&str, &str)>
-    ensures { option_map (λ cut. (cut.0.now, cut.1.now)) result ≡ cut_at_space text.now }
+    ensures { option_map (λ cut. (cut.0.now, cut.1.now)) result ≡ Spec.cut_at_space text.now }
 {
-    let Some(place) = text.rfind(' ') else {
-        return None;
-    };
+    let place = text.rfind(' ')?;
     if place <= 5 {
         return None;
     }
@@ -63,18 +60,17 @@ fn cut_at_space(text: &str) -> Option<(&str, &str)>
     Some((&text[..place], offset))
 }
 
+#[tactic(auto, using(crate::proofs::Git::ClockCuts::sign_none, crate::proofs::Git::ClockCuts::sign_at))]
 fn cut_at_sign(text: &str) -> Option<(&str, &str)>
-    ensures { option_map (λ cut. (cut.0.now, cut.1.now)) result ≡ cut_at_sign text.now }
+    ensures { option_map (λ cut. (cut.0.now, cut.1.now)) result ≡ Spec.cut_at_sign text.now }
 {
-    let Some(place) = last_sign(text) else {
-        return None;
-    };
-    Some(text.split_at(place))
+    Some(text.split_at(last_sign(text)?))
 }
 
 /// The last place of 2 or more that has a sign directly before a digit.
+#[tactic(auto, using(crate::proofs::Git::ClockCuts::no_sign_at), unfolding(crate::specs::last_sign))]
 fn last_sign(text: &str) -> Option<usize>
-    ensures value { result ≡ last_sign text.now }
+    ensures value { result ≡ Spec.last_sign text.now }
     ensures found { IfSome result (λ k. (k < length text.now) × (slice_index text.now k < 128)) }
 {
     let bytes = text.as_bytes();
@@ -91,7 +87,7 @@ fn last_sign(text: &str) -> Option<usize>
 /// Whether this is a place of 2 or more with a sign directly before a digit.
 fn has_offset_at(bytes: &[u8], place: usize) -> bool
     requires { place < length bytes.now }
-    ensures { result ≡ has_offset_at bytes.now place }
+    ensures { result ≡ Spec.has_offset_at bytes.now place }
 {
     if place < 2 || !matches!(bytes[place], b'+' | b'-') {
         return false;
@@ -100,7 +96,7 @@ fn has_offset_at(bytes: &[u8], place: usize) -> bool
 }
 
 fn begins_with_sign(text: &str) -> bool
-    ensures { result ≡ is_sign (slice_index text.now 0) }
+    ensures { result ≡ Spec.is_sign (slice_index text.now 0) }
 {
     text.starts_with('+') || text.starts_with('-')
 }

@@ -1,7 +1,7 @@
 //! The offsets of formatted dates. Each reader takes a whole text.
 ghost use Rattle.std.specs.Prelude.{◌≡◌, IfSome, if◌then◌else◌};
 ghost use Rattle.jiff.specs.Words.{IsOffsetSeconds};
-ghost use Rattle.gix_date.specs.Fields.DateOffsets.{compact_offset, strict_offset, rfc2822_zone, rfc2822_offset, named_zone, jiff_offset};
+ghost use Rattle.gix_date.specs as Spec;
 
 use crate::parsing::offset::{OffsetFields, parse_offset_fields};
 use crate::time::{MAX_MINUTE, MAX_SECOND, OffsetInSeconds, SECONDS_PER_HOUR};
@@ -9,7 +9,7 @@ use crate::time::{MAX_MINUTE, MAX_SECOND, OffsetInSeconds, SECONDS_PER_HOUR};
 /// The offset of fields: hours of at most 25, and minutes and seconds of at most 59.
 #[inline(always)]
 fn jiff_offset(fields: OffsetFields) -> Option<OffsetInSeconds>
-    ensures value { result ≡ jiff_offset fields }
+    ensures value { result ≡ Spec.jiff_offset fields }
     ensures offset_fits { IfSome result (λ offset. IsOffsetSeconds offset) }
 {
     if fields.hours <= 25
@@ -23,20 +23,20 @@ fn jiff_offset(fields: OffsetFields) -> Option<OffsetInSeconds>
 }
 
 /// A sign, two digits of hours, two of minutes, and perhaps two of seconds, with a colon between the pairs or without.
-#[tactic(auto, unfolding(crate::specs::Fields::DateOffsets::compact_offset))]
+#[tactic(auto, unfolding(crate::specs::compact_offset))]
 #[inline(always)]
 pub(crate) fn parse_date_offset(colons: bool, text: &str) -> Option<OffsetInSeconds>
-    ensures value { result ≡ (if colons then strict_offset text.now else compact_offset text.now) }
+    ensures value { result ≡ (if colons then Spec.strict_offset text.now else Spec.compact_offset text.now) }
     ensures offset_fits { IfSome result (λ offset. IsOffsetSeconds offset) }
 {
     jiff_offset(parse_offset_fields(colons, text)?)
 }
 
 /// A sign, two digits of hours and two of minutes, or else the name of a zone.
-#[tactic(auto, unfolding(crate::specs::Fields::DateOffsets::rfc2822_zone))]
+#[tactic(auto, unfolding(crate::specs::rfc2822_zone))]
 #[inline(always)]
 pub(crate) fn parse_rfc2822_zone(text: &str) -> Option<OffsetInSeconds>
-    ensures value { result ≡ rfc2822_zone text.now }
+    ensures value { result ≡ Spec.rfc2822_zone text.now }
     ensures offset_fits { IfSome result (λ offset. IsOffsetSeconds offset) }
 {
     if let Some(offset) = parse_rfc2822_offset(text) {
@@ -46,10 +46,10 @@ pub(crate) fn parse_rfc2822_zone(text: &str) -> Option<OffsetInSeconds>
 }
 
 /// A sign, two digits of hours and two of minutes.
-#[tactic(auto, unfolding(crate::specs::Fields::DateOffsets::rfc2822_offset))]
+#[tactic(auto, unfolding(crate::specs::rfc2822_offset))]
 #[inline(always)]
 fn parse_rfc2822_offset(text: &str) -> Option<OffsetInSeconds>
-    ensures value { result ≡ rfc2822_offset text.now }
+    ensures value { result ≡ Spec.rfc2822_offset text.now }
     ensures offset_fits { IfSome result (λ offset. IsOffsetSeconds offset) }
 {
     let fields = parse_offset_fields(false, text)?;
@@ -60,9 +60,9 @@ fn parse_rfc2822_offset(text: &str) -> Option<OffsetInSeconds>
 }
 
 /// The offset of a zone's name in RFC 2822, in any letter case.
-#[tactic(auto, unfolding(crate::specs::Fields::DateOffsets::named_zone))]
+#[tactic(auto, unfolding(crate::specs::named_zone))]
 fn named_zone(name: &str) -> Option<OffsetInSeconds>
-    ensures value { result ≡ named_zone name.now }
+    ensures value { result ≡ Spec.named_zone name.now }
     ensures offset_fits { IfSome result (λ offset. IsOffsetSeconds offset) }
 {
     if name.eq_ignore_ascii_case("ut") || name.eq_ignore_ascii_case("gmt") {

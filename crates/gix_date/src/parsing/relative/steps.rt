@@ -2,8 +2,7 @@
 ghost use Rattle.std.specs.Prelude.{◌≡◌, ◌↔◌, ◌+ℤ◌, ◌-ℤ◌, pos, IfSome, IsSome};
 ghost use Rattle.std.specs.Int.{int_div_euclid, int_rem_euclid};
 ghost use Rattle.jiff.specs.Words.{plain_zone, zoned_nanos, nanos_of_seconds, KeepsZone, IsTimestampNanos, IsYear, IsYmd, IsEpochDay, IsBetween, epoch_day, month_number};
-ghost use Rattle.gix_date.specs.Relative.PairsRead.{pair_of};
-ghost use Rattle.gix_date.specs.Relative.Steps.{zone_of, Resolves, SecondsStep, MonthsStep, PairStep, IsPicked, IsMonthsBeforeIfAny, civil_of, IsAt};
+ghost use Rattle.gix_date.specs as Spec;
 
 use crate::parsing::relative::pairs::Pair;
 use crate::parsing::relative::words::{MONTHS_PER_YEAR, TimeUnit};
@@ -14,7 +13,7 @@ use jiff::{SignedDuration, Zoned};
 
 /// The moment to which its zone resolves its local time: an earlier one where the clock shows that time again.
 pub(crate) fn resolve<'a>(moment: Zoned<'a>) -> Option<Zoned<'a>>
-    ensures step { IsAt (Resolves (zone_of moment.entry) (zoned_nanos moment.entry)) result }
+    ensures step { Spec.IsAt (Spec.Resolves (Spec.zone_of moment.entry) (zoned_nanos moment.entry)) result }
     ensures zone { IfSome result (KeepsZone moment.entry) }
 {
     let zone = moment.time_zone();
@@ -30,7 +29,7 @@ pub(crate) fn resolve<'a>(moment: Zoned<'a>) -> Option<Zoned<'a>>
 
 /// Subtracts a pair from a moment.
 pub(crate) fn subtract<'a>(moment: Zoned<'a>, pair: Pair) -> Option<Zoned<'a>>
-    ensures step { IsAt (PairStep (zone_of moment.entry) (pair_of pair) (zoned_nanos moment.entry)) result }
+    ensures step { Spec.IsAt (Spec.PairStep (Spec.zone_of moment.entry) (Spec.pair_of pair) (zoned_nanos moment.entry)) result }
     ensures zone { IfSome result (KeepsZone moment.entry) }
 {
     match pair.unit {
@@ -42,13 +41,10 @@ pub(crate) fn subtract<'a>(moment: Zoned<'a>, pair: Pair) -> Option<Zoned<'a>>
 /// Subtracts seconds from a moment.
 #[tactic(auto, using(crate::proofs::Text::Ints::held, crate::proofs::Relative::Steps::at_same))]
 fn subtract_seconds<'a>(moment: Zoned<'a>, seconds: i64) -> Option<Zoned<'a>>
-    ensures step { IsAt (SecondsStep (zone_of moment.entry) seconds (zoned_nanos moment.entry)) result }
+    ensures step { Spec.IsAt (Spec.SecondsStep (Spec.zone_of moment.entry) seconds (zoned_nanos moment.entry)) result }
     ensures zone { IfSome result (KeepsZone moment.entry) }
 {
-    let Some(moment) = earlier(moment, seconds) else {
-        return None;
-    };
-    resolve(moment)
+    resolve(earlier(moment, seconds)?)
 }
 
 /// The instant so many seconds before a moment, in its zone.
@@ -68,7 +64,7 @@ pub(crate) fn earlier<'a>(moment: Zoned<'a>, seconds: i64) -> Option<Zoned<'a>>
 
 /// Subtracts months from a moment. The time of day stays.
 fn subtract_months<'a>(moment: Zoned<'a>, months: i64) -> Option<Zoned<'a>>
-    ensures step { IsAt (MonthsStep (zone_of moment.entry) months (zoned_nanos moment.entry)) result }
+    ensures step { Spec.IsAt (Spec.MonthsStep (Spec.zone_of moment.entry) months (zoned_nanos moment.entry)) result }
     ensures zone { IfSome result (KeepsZone moment.entry) }
 {
     let date = months_before(moment.date(), months)?;
@@ -77,7 +73,7 @@ fn subtract_months<'a>(moment: Zoned<'a>, months: i64) -> Option<Zoned<'a>>
 
 /// The date so many months before a date. The day stays, so a day past the end of its month falls into the next.
 pub(crate) fn months_before(date: Date, months: i64) -> Option<Date>
-    ensures { IsMonthsBeforeIfAny date months result }
+    ensures { Spec.IsMonthsBeforeIfAny date months result }
 {
     let number = month_number(date).checked_sub(months)?;
     let first = first_day_of(number)?;
@@ -124,8 +120,8 @@ fn day_from(first: Date, day: i8) -> Option<Date>
 /// later, as in `jiff`.
 #[inline(always)]
 pub(crate) fn to_instant<'a>(date: Date, time: TimeOfDay, zone: TimeZone<'a>) -> Option<Zoned<'a>>
-    ensures instant { IsAt (IsPicked (plain_zone zone.entry) (civil_of (epoch_day date) time)) result }
-    ensures zone { IfSome result (λ r. zone_of r ≡ plain_zone zone.entry) }
+    ensures instant { Spec.IsAt (Spec.IsPicked (plain_zone zone.entry) (Spec.civil_of (epoch_day date) time)) result }
+    ensures zone { IfSome result (λ r. Spec.zone_of r ≡ plain_zone zone.entry) }
 {
     match date.to_datetime(time).to_zoned(zone) {
         Ok(moment) => Some(moment),

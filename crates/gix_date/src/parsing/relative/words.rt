@@ -1,9 +1,8 @@
 //! The words of a relative text: what each counts, and which unit it names.
 ghost use Rattle.std.specs.Prelude.{◌≡◌, ◌∷◌, [], ◌<◌, length, IfSome, MatchOption, drop};
-ghost use Rattle.std.specs.List.{prefix_len};
+ghost use Rattle.std.specs.List.{prefix_len, position};
 ghost use Rattle.std.specs.Char.{is_ascii_alphanumeric};
-ghost use Rattle.gix_date.specs.Relative.Words.{relative_words, is_gap, count_of, named_count, number_named, singular, named_unit, unit_of, is_ago};
-ghost use Rattle.gix_date.specs.Relative.Roles.{is_count_word, has_unit};
+ghost use Rattle.gix_date.specs as Spec;
 
 use crate::parsing::numbers::{are_digits, parse_int};
 use crate::time::{SECONDS_PER_DAY, SECONDS_PER_HOUR, SECONDS_PER_MINUTE};
@@ -25,10 +24,10 @@ pub(crate) enum TimeUnit {
 }
 
 /// The first word of a text, and what stands after it. A word is a longest run of ASCII letters and digits.
-#[tactic(auto, using(crate::proofs::Relative::RelativeWordSteps::word_end))]
+#[tactic(auto, using(crate::proofs::Relative::RelativeWordSteps::word_end, crate::proofs::Relative::RelativeWordSteps::no_words, crate::proofs::Relative::RelativeWordSteps::word_comes))]
 pub(crate) fn next_word(text: &str) -> Option<(&str, &str)>
-    ensures words { MatchOption result (relative_words text.now ≡ [])
-        (λ found. relative_words text.now ≡ found.0.now ∷ relative_words found.1.now) }
+    ensures words { MatchOption result (Spec.relative_words text.now ≡ [])
+        (λ found. Spec.relative_words text.now ≡ found.0.now ∷ Spec.relative_words found.1.now) }
     ensures shorter { IfSome result (λ found. length found.1.now < length text.now) }
 {
     let from = skip_gap(text);
@@ -42,14 +41,14 @@ pub(crate) fn next_word(text: &str) -> Option<(&str, &str)>
 /// The text from its first word on.
 #[tactic(auto, using(crate::proofs::Relative::RelativeWordSteps::gap_end))]
 fn skip_gap(text: &str) -> &str
-    ensures { result.now ≡ drop (prefix_len is_gap text.now) text.now }
+    ensures { result.now ≡ drop (prefix_len Spec.is_gap text.now) text.now }
 {
     &text[gap_len(text)..]
 }
 
 /// How many bytes stand before the first word.
 fn gap_len(text: &str) -> usize
-    ensures { result ≡ prefix_len is_gap text.now }
+    ensures { result ≡ prefix_len Spec.is_gap text.now }
 {
     text.bytes()
         .take_while(|b| !b.is_ascii_alphanumeric())
@@ -67,9 +66,9 @@ pub(crate) fn word_len(text: &str) -> usize
 
 /// What a count word counts: digits whose number an `i64` holds, or in any letter case `one` to `ten`, and `last`,
 /// which is 1.
-#[tactic(auto, unfolding(crate::specs::Relative::Words::count_of))]
+#[tactic(auto, unfolding(crate::specs::count_of))]
 pub(crate) fn count_of(word: &str) -> Option<i64>
-    ensures { result ≡ count_of word.now }
+    ensures { result ≡ Spec.count_of word.now }
 {
     // A sign is not read as part of a number.
     if are_digits(word.as_bytes()) {
@@ -80,9 +79,9 @@ pub(crate) fn count_of(word: &str) -> Option<i64>
 }
 
 /// What `one` to `ten` count, and `last`.
-#[tactic(auto, unfolding(crate::specs::Relative::Words::named_count))]
+#[tactic(auto, unfolding(crate::specs::named_count))]
 fn named_count(word: &str) -> Option<i64>
-    ensures { result ≡ named_count word.now }
+    ensures { result ≡ Spec.named_count word.now }
 {
     if word.eq_ignore_ascii_case("last") {
         return Some(1);
@@ -91,28 +90,34 @@ fn named_count(word: &str) -> Option<i64>
 }
 
 /// The number from 1 to 10 of this name, in any letter case.
-#[tactic(auto, unfolding(crate::specs::Relative::Words::number_named))]
+#[tactic(auto, unfolding(crate::specs::number_named))]
 fn number_named(word: &str) -> Option<i64>
-    ensures { result ≡ number_named word.now }
+    ensures { result ≡ Spec.number_named word.now }
 {
-    let place = NUMBERS
+    Some(place_of(word, &NUMBERS)? as i64 + 1)
+}
+
+/// The place of the name that a word is.
+fn place_of(word: &str, names: &[&str]) -> Option<usize>
+    ensures { result ≡ position (λ name. Spec.is_name word.now name.now) names.now }
+{
+    names
         .iter()
-        .position(|number| word.eq_ignore_ascii_case(number))?;
-    Some(place as i64 + 1)
+        .position(|name| word.eq_ignore_ascii_case(name))
 }
 
 /// Whether a word counts.
-#[tactic(auto, unfolding(crate::specs::Relative::Roles::is_count_word))]
+#[tactic(auto, unfolding(crate::specs::is_count_word))]
 pub(crate) fn is_count_word(word: &str) -> bool
-    ensures { result ≡ is_count_word word.now }
+    ensures { result ≡ Spec.is_count_word word.now }
 {
     count_of(word).is_some()
 }
 
 /// The unit that a period names in any letter case, one final `s` aside.
-#[tactic(auto, unfolding(crate::specs::Relative::Words::unit_of))]
+#[tactic(auto, unfolding(crate::specs::unit_of))]
 pub(crate) fn unit_of(period: &str) -> Option<TimeUnit>
-    ensures { result ≡ unit_of period.now }
+    ensures { result ≡ Spec.unit_of period.now }
 {
     named_unit(singular(period))
 }
@@ -120,7 +125,7 @@ pub(crate) fn unit_of(period: &str) -> Option<TimeUnit>
 /// A period without one final `s` or `S`.
 #[tactic(auto, using(crate::proofs::Relative::RelativeCounts::without_small, std::proofs::lemmas::Grind::common_steps, crate::proofs::Relative::RelativeCounts::without_other))]
 fn singular(period: &str) -> &str
-    ensures { result.now ≡ singular period.now }
+    ensures { result.now ≡ Spec.singular period.now }
 {
     if period.ends_with('s') {
         return &period[..period.len() - 1];
@@ -132,9 +137,9 @@ fn singular(period: &str) -> &str
 }
 
 /// The unit of this name.
-#[tactic(auto, unfolding(crate::specs::Relative::Words::named_unit))]
+#[tactic(auto, unfolding(crate::specs::named_unit))]
 fn named_unit(name: &str) -> Option<TimeUnit>
-    ensures { result ≡ named_unit name.now }
+    ensures { result ≡ Spec.named_unit name.now }
 {
     if name.eq_ignore_ascii_case("second") {
         Some(TimeUnit::Seconds(1))
@@ -156,16 +161,16 @@ fn named_unit(name: &str) -> Option<TimeUnit>
 }
 
 /// Whether a period names a unit.
-#[tactic(auto, unfolding(crate::specs::Relative::Roles::has_unit))]
+#[tactic(auto, unfolding(crate::specs::has_unit))]
 pub(crate) fn has_unit(period: &str) -> bool
-    ensures { result ≡ has_unit period.now }
+    ensures { result ≡ Spec.has_unit period.now }
 {
     unit_of(period).is_some()
 }
 
 /// Whether a word is `ago`, in any letter case.
 pub(crate) fn is_ago(word: &str) -> bool
-    ensures { result ≡ is_ago word.now }
+    ensures { result ≡ Spec.is_ago word.now }
 {
     word.eq_ignore_ascii_case("ago")
 }

@@ -6,9 +6,9 @@ use Rattle.jiff_core.proofs.SignedLemmas.{signed_arith}
 use Rattle.gix_date.proofs.Fields.Instants.{instant_holds}
 use Rattle.gix_date.specs.Fields.Layout.{LocalTime}
 use Rattle.gix_date.specs.Relative.Steps.{zone_of}
-use Rattle.git_date.specs.Approximate.Clocks.{shown_at}
+use Rattle.git_date.specs.Approximate.Clocks.{clock_shown_at}
 use Rattle.git_date.specs.Exact.Zones.{states_of}
-use Rattle.git_date.specs.declared.approximate.shown.ZoneClock.{ZoneClock}
+use Rattle.git_date.specs.declared.approximate.zone.ZoneClock.{ZoneClock}
 use Rattle.git_date.proofs.Guesses.ZoneClocks.{is-instant-of, shown-there}
 use Rattle.git_date.proofs.approximate.zone.shown_in.Goals.{After-from}
 use Rattle.git_date.proofs.approximate.zone.shown_in.Goals as goal
@@ -40,10 +40,10 @@ returns c =
     let offset_fits : FitsSigned w32 there.offset = search rules in
     let from_fits : FitsSigned w64 c.from.result = search rules in
     let sum_fits : FitsSigned w64 (s +ℤ c.from.result) = h.2 in
-    let shown : Some c.in_ok-shown.shown ≡ shown_at (s +ℤ c.from.result) = simp to_z-of_z at c.in_ok-shown.ensures in
+    let shown : Some c.in_ok-shown.shown ≡ clock_shown_at (s +ℤ c.from.result) = simp to_z-of_z at c.in_ok-shown.ensures in
     let moved = simp to_z-of_z at c.with_offset.ensures in
     ap (shown_there there.daylight) moved
-    ∙ shown-there (states_of (zone_of c.args.moment)) s there (Some c.in_ok-shown.shown) h.0 (shown ∙ ap (λ (o : ℤ). shown_at (s +ℤ o)) h.1)
+    ∙ shown-there (states_of (zone_of c.args.moment)) s there (Some c.in_ok-shown.shown) h.0 (shown ∙ ap (λ (o : ℤ). clock_shown_at (s +ℤ o)) h.1)
 
 pub returns-in_err-shown : goal.returns-in_err-shown
 returns-in_err-shown c =
@@ -53,6 +53,6 @@ returns-in_err-shown c =
     let fits : FitsSigned w64 s = search rules in
     let from_fits : FitsSigned w64 c.from.result = search rules in
     let sum_fits : FitsSigned w64 (s +ℤ c.from.result) = h.2 in
-    let shown : None ≡ shown_at (s +ℤ c.from.result) = simp to_z-of_z at c.in_err-shown.ensures in
+    let shown : None ≡ clock_shown_at (s +ℤ c.from.result) = simp to_z-of_z at c.in_err-shown.ensures in
     c.from_residual-in_err-shown.ensures
-    ∙ shown-there (states_of (zone_of c.args.moment)) s there None h.0 (shown ∙ ap (λ (o : ℤ). shown_at (s +ℤ o)) h.1)
+    ∙ shown-there (states_of (zone_of c.args.moment)) s there None h.0 (shown ∙ ap (λ (o : ℤ). clock_shown_at (s +ℤ o)) h.1)

@@ -1,5 +1,5 @@
 use Rattle.std.proofs.Common.{rules, ◌∙◌, ap, Option, Some}
-use Rattle.git_date.specs.declared.format.fault.FormatFault.{FormatFault}
+use Rattle.git_date.specs.declared.format.error.FormatFault.{FormatFault}
 use Rattle.git_date.proofs.Formats.Walks.{left-all, left-next, left-fault, left-end, fault-of, no-fault, some-left, none-left}
 use Rattle.git_date.proofs.format.walks.first_fault.Goals as goal
 

@@ -1,5 +1,5 @@
 use Rattle.std.proofs.Common.{rules, ◌≡◌, ◌∙◌, ◌++◌, sym, ap, List, string_bytes, append-nil}
-use Rattle.git_date.specs.Formats.Format.{texts}
+use Rattle.git_date.specs.Formats.Format.{pieces_text}
 use Rattle.git_date.specs.Formats.Pieces.{Piece, piece_of}
 use Rattle.git_date.specs.Formats.Shown.{shown_of}
 use Rattle.git_date.proofs.Formats.Walks.{left-all, left-next, left-fault, left-end, not-whole, pieces-are, some-left, none-left, grown-more}
@@ -8,7 +8,7 @@ use Rattle.git_date.proofs.format.walks.push_pieces.Goals as goal
 pub pieces-init : goal.pieces-init
 pieces-init c = (
   search rules,
-  left-all c.args.text.now (λ done. string_bytes c.args.out.now ≡ string_bytes c.args.out.now ++ texts (shown_of c.args.shown.now) done)
+  left-all c.args.text.now (λ done. string_bytes c.args.out.now ≡ string_bytes c.args.out.now ++ pieces_text (shown_of c.args.shown.now) done)
       (sym (append-nil (string_bytes c.args.out.now))),
 )
 
@@ -34,4 +34,4 @@ returns c =
     let left = c.pieces.invariant.1 in
     let all = pieces-are c.args.text.now left.done
     (left-end c.args.text.now c.pieces.rest.now _ left (none-left c.pieces.rest.now c.pieces-test.ensures)) in
-    left.so_far ∙ ap (λ (ps : List Piece). string_bytes c.args.out.now ++ texts (shown_of c.args.shown.now) ps) all
+    left.so_far ∙ ap (λ (ps : List Piece). string_bytes c.args.out.now ++ pieces_text (shown_of c.args.shown.now) ps) all

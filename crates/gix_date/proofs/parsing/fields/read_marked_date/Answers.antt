@@ -43,30 +43,30 @@ of-bytes mark bytes text x y z w t n first second p q r s =
 
 pub range_from-requires : goal.range_from-requires
 range_from-requires c = λ _.
-    cut_pair c.as_bytes.result.now c.args.text.now 9 c.in-Some-parse_two_digits-3.day c.as_bytes.ensures.value c.utf8.text
-    (omega (arith, c.in-len10-up.len_at_least)) c.in-Some-parse_two_digits-3.ensures.value
+    cut_pair c.as_bytes.result.now c.args.text.now 9 c.in_ok-day.day c.as_bytes.ensures.value c.utf8.text
+    (omega (arith, c.in-len10-up.len_at_least)) c.in_ok-day.ensures.value
 
-pub returns-in_default-parse_two_digits-clause-value : goal.returns-in_default-parse_two_digits-clause-value
-returns-in_default-parse_two_digits-clause-value c = of-bytes c.args.mark c.as_bytes.result.now c.args.text.now None _ _ _
+pub returns-in_err-century-clause-value : goal.returns-in_err-century-clause-value
+returns-in_err-century-clause-value c = rw c.from_residual.ensures (of-bytes c.args.mark c.as_bytes.result.now c.args.text.now None _ _ _
     c.as_bytes.ensures.value c.in-len10-up.len_at_least (sym c.from.ensures ∙ c.if-from-mark.false) (sym c.from-else-from-mark.ensures ∙ c.if-from-mark-2.false)
-    c.in_default-parse_two_digits.ensures.value refl refl refl
+    c.in_err-century.ensures.value refl refl refl)
 
-pub returns-in_default-parse_two_digits-2-clause-value : goal.returns-in_default-parse_two_digits-2-clause-value
-returns-in_default-parse_two_digits-2-clause-value c = of-bytes c.args.mark c.as_bytes.result.now c.args.text.now (Some c.in-Some.century) None _ _
+pub returns-in_err-year-clause-value : goal.returns-in_err-year-clause-value
+returns-in_err-year-clause-value c = rw c.from_residual-in_err-year.ensures (of-bytes c.args.mark c.as_bytes.result.now c.args.text.now (Some c.in_ok-century.century) None _ _
     c.as_bytes.ensures.value c.in-len10-up.len_at_least (sym c.from.ensures ∙ c.if-from-mark.false) (sym c.from-else-from-mark.ensures ∙ c.if-from-mark-2.false)
-    c.in-Some.ensures.value c.in_default-parse_two_digits-2.ensures.value refl refl
+    c.in_ok-century.ensures.value c.in_err-year.ensures.value refl refl)
 
-pub returns-in_default-parse_two_digits-3-clause-value : goal.returns-in_default-parse_two_digits-3-clause-value
-returns-in_default-parse_two_digits-3-clause-value c = of-bytes c.args.mark c.as_bytes.result.now c.args.text.now (Some c.in-Some.century) (Some c.in-Some-parse_two_digits.year) None _
+pub returns-in_err-month-clause-value : goal.returns-in_err-month-clause-value
+returns-in_err-month-clause-value c = rw c.from_residual-in_err-month.ensures (of-bytes c.args.mark c.as_bytes.result.now c.args.text.now (Some c.in_ok-century.century) (Some c.in_ok-year.year) None _
     c.as_bytes.ensures.value c.in-len10-up.len_at_least (sym c.from.ensures ∙ c.if-from-mark.false) (sym c.from-else-from-mark.ensures ∙ c.if-from-mark-2.false)
-    c.in-Some.ensures.value c.in-Some-parse_two_digits.ensures.value c.in_default-parse_two_digits-3.ensures.value refl
+    c.in_ok-century.ensures.value c.in_ok-year.ensures.value c.in_err-month.ensures.value refl)
 
-pub returns-in_default-parse_two_digits-4-clause-value : goal.returns-in_default-parse_two_digits-4-clause-value
-returns-in_default-parse_two_digits-4-clause-value c = of-bytes c.args.mark c.as_bytes.result.now c.args.text.now (Some c.in-Some.century) (Some c.in-Some-parse_two_digits.year) (Some c.in-Some-parse_two_digits-2.month) None
+pub returns-in_err-day-clause-value : goal.returns-in_err-day-clause-value
+returns-in_err-day-clause-value c = rw c.from_residual-in_err-day.ensures (of-bytes c.args.mark c.as_bytes.result.now c.args.text.now (Some c.in_ok-century.century) (Some c.in_ok-year.year) (Some c.in_ok-month.month) None
     c.as_bytes.ensures.value c.in-len10-up.len_at_least (sym c.from.ensures ∙ c.if-from-mark.false) (sym c.from-else-from-mark.ensures ∙ c.if-from-mark-2.false)
-    c.in-Some.ensures.value c.in-Some-parse_two_digits.ensures.value c.in-Some-parse_two_digits-2.ensures.value c.in_default-parse_two_digits-4.ensures.value
+    c.in_ok-century.ensures.value c.in_ok-year.ensures.value c.in_ok-month.ensures.value c.in_err-day.ensures.value)
 
 pub returns-clause-value : goal.returns-clause-value
-returns-clause-value c = rw c.range_from.ensures.value (of-bytes c.args.mark c.as_bytes.result.now c.args.text.now (Some c.from-2.result) (Some c.from-3.result) (Some c.in-Some-parse_two_digits-2.month) (Some c.in-Some-parse_two_digits-3.day)
+returns-clause-value c = rw c.range_from.ensures.value (of-bytes c.args.mark c.as_bytes.result.now c.args.text.now (Some c.from-2.result) (Some c.from-3.result) (Some c.in_ok-month.month) (Some c.in_ok-day.day)
     c.as_bytes.ensures.value c.in-len10-up.len_at_least (sym c.from.ensures ∙ c.if-from-mark.false) (sym c.from-else-from-mark.ensures ∙ c.if-from-mark-2.false)
-    (ap (λ (n : ℕ). Some n) c.from-2.ensures ∙ c.in-Some.ensures.value) (ap (λ (n : ℕ). Some n) c.from-3.ensures ∙ c.in-Some-parse_two_digits.ensures.value) c.in-Some-parse_two_digits-2.ensures.value c.in-Some-parse_two_digits-3.ensures.value)
+    (ap (λ (n : ℕ). Some n) c.from-2.ensures ∙ c.in_ok-century.ensures.value) (ap (λ (n : ℕ). Some n) c.from-3.ensures ∙ c.in_ok-year.ensures.value) c.in_ok-month.ensures.value c.in_ok-day.ensures.value)

@@ -2,9 +2,11 @@ use Rattle.std.proofs.Common.{◌∙◌, ap, refl, subst, Ok}
 use Rattle.gix_date_c.specs.Git.Formats.{IsByFormat, checked_bytes}
 use Rattle.gix_date_c.specs.Git.Modes.{local_of}
 use Rattle.gix_date_c.specs.Values.Buffers.{outcome_of}
+use Rattle.gix_date_c.specs.Zones.{HasZone}
 use Rattle.gix_date_c.proofs.git.formats.git_date_show_by_format.Goals as goal
 
 pub returns-then-is_own_brief : goal.returns-then-is_own_brief
+unfolding HasZone
 returns-then-is_own_brief c =
     let zone = c.is_zone.ensures c.if-is_zone.true in
     let text = c.is_own_brief.new.brief.bytes in (

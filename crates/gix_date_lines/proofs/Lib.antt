@@ -1,4 +1,0 @@
-mod Rows
-pub mod Splitting
-pub mod ByteBlocks
-pub mod HeaderLines

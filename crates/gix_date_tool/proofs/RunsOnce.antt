@@ -1,3 +1,0 @@
--- What a run has read and written that ends well.
-
--- what was written

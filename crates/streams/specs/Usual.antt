@@ -1,0 +1,21 @@
+-- Lines at the front of an input that are headers.
+use Rattle.std.specs.Prelude.{◌≡◌, ◌≤◌, ℕ, true, List, ◌++◌, codes, length}
+use Rattle.gix_date.specs.Header.Canonical.{is_canonical_header}
+use Rattle.gix_date.specs.Header.CanonicalBytes.{are_usual_seconds}
+use Rattle.streams.specs.Lines.{IsLine, with_newline}
+use Rattle.streams.specs.declared.usual.TheConstants.{MAX_HEADER}
+
+-- the input begins with a line that is a canonical header of few bytes, and these bytes stand after its newline
+pub record BeginsWithHeader (input after : List ℕ) : Type 0 where
+  pub line : List ℕ
+  pub whole : input ≡ with_newline line ++ after
+  pub is_line : IsLine line
+  pub is_canonical : is_canonical_header line ≡ true
+  pub is_short : length line ≤ MAX_HEADER
+
+-- the input begins with these seconds and the offset `-0000` as a line, and these bytes stand after its newline
+pub record BeginsWithUnknown (input seconds after : List ℕ) : Type 0 where
+  pub whole : input ≡ with_newline (seconds ++ codes " -0000") ++ after
+  pub is_line : IsLine (seconds ++ codes " -0000")
+  pub are_seconds : are_usual_seconds seconds ≡ true
+  pub is_short : length (seconds ++ codes " -0000") ≤ MAX_HEADER
