@@ -4,7 +4,7 @@
 
 # The help of the program itself.
 program_help() {
-    sed -n '/r#"/,/^"#;$/{ s/^.*r#"//; /^"#;$/!p; }' "$root/crates/$teller/src/program/help.rt"
+    sed -n '/r#"/,/^"#;$/{ s/^.*r#"//; /^"#;$/!p; }' "$root/crates/$teller/src/help.rt"
 }
 
 # The help of the script.
@@ -16,7 +16,7 @@ show_help() {
 explain() {
     case ${1-} in
         --help | -h) (show_help) 2>/dev/null ;;
-        --version) sed -n 's/^.* VERSION: .*"\(.*\)\\n";$/\1/p' "$root/crates/$teller/src/program/help.rt" 2>/dev/null ;;
+        --version) sed -n 's/^.* VERSION: .*"\(.*\)\\n";$/\1/p' "$root/crates/$teller/src/help.rt" 2>/dev/null ;;
         *) return 0 ;;
     esac && exit 0
     [ $? -le 128 ] || exit 1

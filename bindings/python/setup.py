@@ -25,8 +25,8 @@ def extension() -> Extension:
     library = str(Path(ask("--variable=libdir")) / "libgix_date.a")
     return Extension(
         "gix_date._library",
-        sources=sorted(glob("c/*.c")),
-        depends=[library, "c/library.h"],
+        sources=sorted(glob("src/c/*.c")),
+        depends=[library, "src/c/library.h"],
         define_macros=[("Py_LIMITED_API", "0x030a0000")],
         extra_compile_args=["-std=c99", "-O2", "-fvisibility=hidden", *ask("--cflags", "--keep-system-cflags").split()],
         extra_objects=[library],

@@ -1,7 +1,5 @@
 //! The calls of `include/gix_date.h`. [`Time`] is laid out as its `gix_date_time`, [`Instant`] as its `gix_date_instant`.
 
-pub mod git;
-
 use crate::{Instant, Time};
 use std::ptr;
 
@@ -229,8 +227,8 @@ extern "C" {
 
 #[cfg(test)]
 mod tests {
-    use super::git::{CAge, CApproximate, CExact, CExpiry, CMode};
     use super::*;
+    use crate::git_ffi::{CAge, CApproximate, CExact, CExpiry, CMode};
     use crate::header::{calls, layouts, Layout, GIT_DATE, GIX_DATE};
     use std::mem::{align_of, size_of, size_of_val};
     use std::ptr::addr_of;
@@ -253,7 +251,7 @@ mod tests {
     fn calls_are_declared_as_in_the_headers() {
         for (source, header) in [
             (include_str!("ffi.rs"), GIX_DATE),
-            (include_str!("ffi/git.rs"), GIT_DATE),
+            (include_str!("git_ffi.rs"), GIT_DATE),
         ] {
             let due = calls(header);
             assert!(due.len() >= 5);

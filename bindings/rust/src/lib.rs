@@ -30,6 +30,7 @@ mod calls;
 mod error;
 mod ffi;
 pub mod git;
+mod git_ffi;
 #[cfg(test)]
 mod header;
 pub mod lines;

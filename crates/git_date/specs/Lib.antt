@@ -45,8 +45,7 @@ unfoldable pub use Formats.Flags.{max_width, caret, hash, is_pad, is_flag, pad_a
 unfoldable pub use Formats.Flags.{fill_of, filled}
 unfoldable pub use Formats.Format.{format_bytes, seconds_text, plain_text, piece_text, pieces_text, chunk_text, is_seconds}
 unfoldable pub use Formats.Format.{asks_seconds, shown_pieces, shown_by_format, WritesShown, RefusesText}
-unfoldable pub use Formats.Names.{whole_day_names, whole_day_name, whole_month_name, half_day, small_half_day, tab, name_text}
-unfoldable pub use Formats.Names.{raised, case_of, cased_letter, cased}
+unfoldable pub use Formats.Names.{half_day, small_half_day, tab, name_text, raised, case_of, cased_letter, cased}
 unfoldable pub use Formats.Numbers.{year_days, year_day, monday_day, sunday_day, hour_of_half, IsoDay, day_in, iso_day, iso_week}
 unfoldable pub use Formats.Numbers.{number_value, number_least, is_spaced}
 unfoldable pub use Formats.Pieces.{Made, piece_of, percent, is_percent, text_len, marks_len, after_marks, digits_len, after_digits}

@@ -55,7 +55,8 @@ fn rule<'a>(
     token: Token<'_>,
     text: &'a [u8],
 ) -> Result<(Draft, &'a [u8]), Fault>
-    ensures value { Spec.step_view result ≡ Spec.approximate_rule (Spec.states_of (GixDate.zone_of moment.entry)) today.entry.now draft (Spec.token_of token.entry) (Spec.tokens text.now) }
+    ensures value { Spec.step_view result ≡ Spec.approximate_rule (Spec.states_of (GixDate.zone_of moment.entry)) today.entry.now draft
+        (Spec.token_of token.entry) (Spec.tokens text.now) }
     ensures shorter { IfOk result (λ found. length found.1.now ≤ length text.now) }
 {
     match token {
@@ -130,7 +131,8 @@ fn answer(text: &[u8], draft: Draft, time: Option<Time>) -> Result<Approximate, 
 
 /// The answer of what the tokens say, with the number settled that still waits.
 fn answer_of(moment: Zoned<'_>, today: &Today, text: &[u8]) -> Result<Approximate, DateError>
-    ensures { result ≡ Spec.answer_of (Spec.states_of (GixDate.zone_of moment.entry)) today.entry.now text.now (Spec.draft_of (Spec.states_of (GixDate.zone_of moment.entry)) today.entry.now text.now) }
+    ensures { result ≡ Spec.answer_of (Spec.states_of (GixDate.zone_of moment.entry)) today.entry.now text.now
+        (Spec.draft_of (Spec.states_of (GixDate.zone_of moment.entry)) today.entry.now text.now) }
 {
     let draft = draft_of(moment, today, text).map_err(|fault| error_of(text, fault))?;
     let last = draft.settle();
@@ -167,7 +169,8 @@ pub(crate) fn or_guess(
     text: &[u8],
     error: DateError,
 ) -> Result<Approximate, DateError>
-    ensures { result ≡ Spec.exact_or_guess (Err error) (Spec.guess (Spec.states_of (GixDate.zone_of moment.entry)) (Spec.now_of moment.entry) text.now) }
+    ensures { result
+        ≡ Spec.exact_or_guess (Err error) (Spec.guess (Spec.states_of (GixDate.zone_of moment.entry)) (Spec.now_of moment.entry) text.now) }
 {
     match error {
         DateError::Unreadable => guess(moment, text),

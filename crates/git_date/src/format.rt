@@ -61,7 +61,8 @@ pub fn text_by_format(
     now: Zoned<'_>,
 ) -> Result<String, ShowError>
     ensures { MatchResult result
-        (λ text. Spec.shown_by_format (Spec.moment_of now.entry).zone local (Spec.format_bytes format.entry) time ≡ Some (string_bytes text))
+        (λ text. Spec.shown_by_format (Spec.moment_of now.entry).zone local (Spec.format_bytes format.entry) time
+        ≡ Some (string_bytes text))
         (Spec.RefusesText (Spec.shown_by_format (Spec.moment_of now.entry).zone local (Spec.format_bytes format.entry) time)) }
 {
     text_by_format_in(alloc, time, format, local, now.time_zone())

@@ -40,6 +40,7 @@ mod mode;
 mod reader;
 mod show;
 mod tokens;
+mod zone_texts;
 mod zones;
 
 pub use approximate::{Approximate, Expiry, approxidate, expiry_date};
@@ -53,7 +54,7 @@ pub use reader::{ReadDate, parse_date, parse_date_at};
 pub use show::{
     Age, DateText, OwnDateError, OwnDateText, age_at, show_date, show_date_at, show_git_time,
 };
-pub use zones::texts::{
+pub use zone_texts::{
     MACHINE_ZONE, TableError, ZONE_FOLDER, decimal_of_offset, offset_of_decimal, zone_file,
     zone_folder, zone_of_text, zone_offset, zone_table, zone_without_file,
 };

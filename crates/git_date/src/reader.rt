@@ -307,7 +307,8 @@ pub struct ReadDate {
 ///
 /// That is the offset by which Git, in the first date of a process, finds the local time in the zone: it goes from UTC's offset to
 /// the one that the zone has there, until an offset shows the time. Of a time that the zone's clock skips it is the one that
-/// leads into daylight saving time. The moment itself matters only to a date such as `7/4/2009` after a clock, which is refused if it is more than ten days ahead.
+/// leads into daylight saving time. The moment itself matters only to a date such as `7/4/2009` after a clock, which is refused if it is
+/// more than ten days ahead.
 ///
 /// The text is bytes, UTF-8 or not: each byte that is not ASCII is a mark, which is skipped. As in Git, whose dates are C strings,
 /// a NUL ends the text: [`ReadDate::ignored`] tells of it, also where nothing follows. [`DateError`] says when a text is

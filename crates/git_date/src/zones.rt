@@ -5,8 +5,6 @@ ghost use Rattle.jiff.specs.Words.{plain_zone, IsOffsetSeconds};
 ghost use Rattle.git_date.specs as Spec;
 ghost use Rattle.gix_date.specs as GixDate;
 
-pub(crate) mod texts;
-
 use crate::clocks::is_instant;
 use jiff::Timestamp;
 use jiff::tz::TimeZone;
@@ -141,7 +139,8 @@ fn hour_off(flag: bool, offset: i32) -> i32
 fn by_other_flag(zone: TimeZone<'_>, flag: bool, clock: i64, offset: i32) -> i32
     requires clock { GixDate.is_instant (clock -ℤ offset) ≡ true }
     requires near { IsOffsetSeconds offset }
-    ensures { result ≡ unwrap_or (Spec.nearest Spec.flag_steps (Spec.states_of (plain_zone zone.entry)) flag (clock -ℤ offset)) (Spec.hour_off flag offset) }
+    ensures { result ≡ unwrap_or (Spec.nearest Spec.flag_steps (Spec.states_of (plain_zone zone.entry)) flag (clock -ℤ offset))
+        (Spec.hour_off flag offset) }
 {
     let instant = earlier(clock, i64::from(offset));
     nearest(zone, flag, instant).unwrap_or(hour_off(flag, offset))

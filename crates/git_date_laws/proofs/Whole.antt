@@ -3,3 +3,4 @@ pub mod Guesses
 pub mod EveryZone
 pub mod Understood
 pub mod FormatModes
+pub mod Headline

@@ -2,7 +2,8 @@
 use Rattle.std.specs.Prelude.{◌≡◌, ◌≤ℤ◌, pos, true, false, Bool, ℕ, List, ◌++◌, codes, Option, None, Ok}
 use Rattle.jiff.specs.declared.zoned.Zoned.{Zoned}
 use Rattle.gix_date.specs.Families.Laws.{Holds}
-use Rattle.gix_date.specs.Families.Order.{Family, AtText, Rfc2822, Iso8601, Iso8601Strict, Gitoxide, Default, BareEpoch, RawText, first_family_by, ParseNoAllocOutcome}
+use Rattle.gix_date.specs.Families.Order.{Family, AtText, Rfc2822, Iso8601, Iso8601Strict, Gitoxide, Default, BareEpoch, RawText}
+use Rattle.gix_date.specs.Families.Order.{first_family_by, ParseNoAllocOutcome}
 use Rattle.gix_date.specs.Families.Raw.{OffsetRule}
 use Rattle.gix_date.specs.declared.time.Time.{Time}
 use Rattle.git_date.specs.Exact.Outcome.{DateOutcome}

@@ -37,7 +37,8 @@ offset_then moment seconds = offset_at (zone_of moment) (nanos_of_seconds second
 -- the instant is not before 1970, and is found again from a guess by what the zone's clock shows there
 abbrev pub IsFoundThere : Zoned → ℤ → ℤ → Type 0
 IsFoundThere moment guess seconds =
-    (pos 0 ≤ℤ seconds) × IsFoundAgain (states_of (zone_of moment)) guess (seconds +ℤ offset_then moment seconds) (offset_then moment seconds)
+    (pos 0 ≤ℤ seconds)
+    × IsFoundAgain (states_of (zone_of moment)) guess (seconds +ℤ offset_then moment seconds) (offset_then moment seconds)
 
 -- now is found again
 abbrev pub IsFoundNow : Zoned → Type 0
@@ -55,7 +56,8 @@ unfoldable pub IsBackInEveryZone : Zoned → List ℕ → Type 0
 IsBackInEveryZone moment text =
     (count size : ℕ) (result : Result Approximate DateError) → CountsBack text count size → IsReachedThere moment (count * size)
     → ApproximateOutcome moment text result
-    → result ≡ Ok (record (exactly_back (now_of moment).seconds (offset_then moment ((now_of moment).seconds -ℤ pos (count * size))) (count * size)) {
+    → result ≡ Ok
+    (record (exactly_back (now_of moment).seconds (offset_then moment ((now_of moment).seconds -ℤ pos (count * size))) (count * size)) {
       ignored = nul_place text;
     })
 
@@ -69,7 +71,8 @@ moment_itself moment ignored = record {
 
 -- in every zone `now` is now, and so is `0 seconds ago`, which ignores the 0
 pub record IsNow (moment : Zoned) : Type 0 where
-  pub now : (result : Result Approximate DateError) → ApproximateOutcome moment (codes "now") result → result ≡ Ok (moment_itself moment None)
+  pub now : (result : Result Approximate DateError) → ApproximateOutcome moment (codes "now") result
+      → result ≡ Ok (moment_itself moment None)
   pub zero : (result : Result Approximate DateError) → ApproximateOutcome moment (codes "0 seconds ago") result
       → result ≡ Ok (moment_itself moment (Some 0))
 

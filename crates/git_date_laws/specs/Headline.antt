@@ -36,7 +36,8 @@ shown_time at local t = if local then time_at at.zone t.seconds else t
 
 -- this is read as a time in every zone, it says its offset, and nothing is ignored
 abbrev pub IsReadAs : Zoned → List ℕ → Time → Type 0
-IsReadAs moment text t = (tz : TimeZone) → read_at (zoned_nanos moment) tz text ≡ Ok (record { time = t; has_offset = true; ignored = None })
+IsReadAs moment text t = (tz : TimeZone)
+    → read_at (zoned_nanos moment) tz text ≡ Ok (record { time = t; has_offset = true; ignored = None })
 
 -- what such a mode shows of a time of Git's is read as that time
 abbrev pub IsReadAsShown : Zoned → Time → Type 0
@@ -63,7 +64,7 @@ IsReadAsUnix moment t =
 
 -- For every text, time and moment, in every zone: each reader has one result, by the rules that are written; `approxidate` has
 -- that of `parse_date` where this reads; letter case changes neither; `now` is now; and what is shown is read back.
-pub record IsHeadline (moment : Zoned) (text : List ℕ) (t : Time) : Type 0 where
+pub record Promise (moment : Zoned) (text : List ℕ) (t : Time) : Type 0 where
   pub exact : HasOne (DateOutcome moment text)
   pub approximate : HasOne (ApproximateOutcome moment text)
   pub expiry : HasOne (ExpiryOutcome moment text)
@@ -75,3 +76,7 @@ pub record IsHeadline (moment : Zoned) (text : List ℕ) (t : Time) : Type 0 whe
   pub raw_alone : IsReadAsRaw moment t
   pub unix_alone : IsReadAsUnix moment t
   pub raw_read_back : ReadsRawBack moment t
+
+-- the whole promise holds of them
+unfoldable pub IsHeadline : Zoned → List ℕ → Time → Type 0
+IsHeadline moment text t = Promise moment text t

@@ -93,7 +93,8 @@ IsReadIfShown zone clock =
 -- the offset that the zone has where its clock shows these seconds is found by them and by the flag there
 abbrev pub IsFoundAgain : States → ℤ → ℤ → ℤ → Type 0
 IsFoundAgain zone guess clock offset =
-    found_offset zone (record { clock = clock; daylight = option_map (λ (there : ZoneState). there.daylight) (state_by zone clock offset) }) guess
+    found_offset zone (record { clock = clock; daylight = option_map (λ (there : ZoneState). there.daylight) (state_by zone clock offset) })
+    guess
     ≡ Some offset
 
 -- no other offset shows these seconds

@@ -16,8 +16,8 @@ unfoldable pub use ApproximateLaws.{moment_itself, IsNowIfFound, IsMomentUnlessU
 pub use ApproximateLaws.{IsReachedThere, IsNow}
 unfoldable pub use Formats.{ShowsItself, ShowsStored, ShowsAsMode, ShowsModes, joined, moved, ChecksJoined, ShowsJoined}
 pub use Formats.{IsOfKnownYear}
-unfoldable pub use Headline.{HasOne, shows_all, shown_time, IsReadAs, IsReadAsShown, IsEpoch, IsReadAsRaw, IsReadAsUnix}
-pub use Headline.{IsHeadline}
+unfoldable pub use Headline.{HasOne, shows_all, shown_time, IsReadAs, IsReadAsShown, IsEpoch, IsReadAsRaw, IsReadAsUnix, IsHeadline}
+pub use Headline.{Promise}
 unfoldable pub use Ignored.{is_known, is_word, is_end_of_number, after_ending, is_clock, is_short, is_set, is_taken, takes_group}
 unfoldable pub use Ignored.{alone, may_be_epoch, after_fraction, begins_line, first_of, IgnoresUnused}
 pub use Ignored.{Says, Epoch, InGroup, Alone, Used, Word, Number, Sign, Other, Unused, NoWord, NoNumber, NoSign, Walk}

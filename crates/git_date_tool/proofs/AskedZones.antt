@@ -3,7 +3,8 @@ use Rattle.std.proofs.Common.{◌≡◌, subst, inl, inr, ℕ, ℤ, List, Option
 use Rattle.jiff.specs.Types.{TimeZone}
 use Rattle.git_date.specs.Exact.Places.{IsZoneWithoutFile, file_of}
 use Rattle.git_date.specs.Exact.ZoneTexts.{zone_offset}
-use Rattle.git_date_tool.specs.Zones.Zones.{IsAskedZone, IsFileSource, IsFileZone, IsFixedAt, IsFixedSource, IsNamedSource, IsNamedZone, IsSaidSource, IsSourceOf, IsTaken, IsTextOf, IsTextSource, IsTextZone, MayLackZone, NeedsSystem}
+use Rattle.git_date_tool.specs.Zones.Zones.{IsAskedZone, IsFileSource, IsFileZone, IsFixedAt, IsFixedSource, IsNamedSource, IsNamedZone}
+use Rattle.git_date_tool.specs.Zones.Zones.{IsSaidSource, IsSourceOf, IsTaken, IsTextOf, IsTextSource, IsTextZone, MayLackZone, NeedsSystem}
 use Rattle.git_date_tool.specs.CommandLine.Command.{Asked}
 use Rattle.git_date_tool.specs.Program.{StartsNot, without_zone}
 use Rattle.git_date_tool.specs.declared.program.Outcome.{Outcome}
@@ -15,7 +16,8 @@ use Rattle.git_date_tool.specs.declared.zones.ZoneText.{ZoneText}
 use Rattle.git_date_tool.specs.declared.zones.ZoneText.TheVariants as texts
 
 -- that of a text, of a file, and of an offset
-said : (tz : List ℕ) (source : ZoneSource) (zone : TimeZone) → IsSaidSource tz source → IsTaken source zone → IsZoneWithoutFile tz (Some zone)
+said : (tz : List ℕ) (source : ZoneSource) (zone : TimeZone) → IsSaidSource tz source → IsTaken source zone
+    → IsZoneWithoutFile tz (Some zone)
 said tz (sources.Plain z) zone h t = subst (λ (k : TimeZone). IsZoneWithoutFile tz (Some k)) (sym t) h
 said tz (sources.Table table) zone h t = absurd h
 
@@ -35,13 +37,15 @@ named (Some name) tz source zone (inr h) t = inr (said tz source zone h t)
 named None tz source zone h t = said tz source zone h t
 
 -- that of ZONE
-of_text : (offset : Option ℤ) (text : List ℕ) (source : ZoneSource) (zone : TimeZone) → IsTextSource offset text source → IsTaken source zone
+of_text : (offset : Option ℤ) (text : List ℕ) (source : ZoneSource) (zone : TimeZone) → IsTextSource offset text source
+    → IsTaken source zone
     → IsTextZone offset text zone
 of_text (Some seconds) text source zone h t = fixed seconds source zone h t
 of_text None text source zone h t = named (file_of text) text source zone h t
 
 -- the zone that is taken from there is asked for
-pub taken_is : (asked : Option (List ℕ)) (text : ZoneText) (source : ZoneSource) (zone : TimeZone) → IsTextOf asked text → IsSourceOf text source
+pub taken_is : (asked : Option (List ℕ)) (text : ZoneText) (source : ZoneSource) (zone : TimeZone) → IsTextOf asked text
+    → IsSourceOf text source
     → IsTaken source zone → IsAskedZone asked zone
 taken_is asked (texts.Zone text) source zone is h t =
     subst (λ (a : Option (List ℕ)). IsAskedZone a zone) (sym is) (of_text (zone_offset text.now) text.now source zone h t)

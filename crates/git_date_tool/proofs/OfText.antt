@@ -14,6 +14,7 @@ unfolding IsOfText
 of_text Finds text bytes found same is_text h =
     subst (λ b. IsIfText b Finds bytes found) (sym (is_utf8-from_IsUtf8 bytes is_text)) (subst (λ t. Finds t found) same h)
 
-pub of_bytes : (Finds : List ℕ → Result Approximate Refusal → Type 0) (bytes : List ℕ) → (IsUtf8 bytes → ⊥) → IsOfText Finds bytes (Err NotText)
+pub of_bytes : (Finds : List ℕ → Result Approximate Refusal → Type 0) (bytes : List ℕ) → (IsUtf8 bytes → ⊥)
+    → IsOfText Finds bytes (Err NotText)
 unfolding IsOfText
 of_bytes Finds bytes h = subst (λ b. IsIfText b Finds bytes (Err NotText)) (sym (no_text bytes h)) refl

@@ -1,10 +1,11 @@
 -- The zone of an offset, and of a text that names no file.
-use Rattle.std.proofs.Common.{◌≡◌, ◌==◌, ◌||◌, if◌then◌else◌, refl, rules, ℕ, ℤ, Bool, true, false, List, length, Option, Some, None, is_some, subst}
+use Rattle.std.proofs.Common.{◌≡◌, ◌==◌, ◌||◌, if◌then◌else◌, refl, rules, ℕ, ℤ, Bool, true, false, List, length, Option, Some, None}
+use Rattle.std.proofs.Common.{is_some, subst}
 use Rattle.std.specs.Str.{bytes_eq}
 use Rattle.jiff_tz.specs.PosixReader.{read_whole}
 use Rattle.jiff_tz.specs.PosixText.{TzText}
 use Rattle.git_date.specs.Exact.Places.{IsUtcOrRule, IsZoneWithoutFile, file_of, is_utc, rule_of, without_colon}
-use Rattle.git_date.specs.declared.zones.texts.TheConstants.{MACHINE_ZONE}
+use Rattle.git_date.specs.declared.zone_texts.TheConstants.{MACHINE_ZONE}
 use Rattle.jiff.specs.Placed.{fixed_zone}
 use Rattle.jiff.specs.Types.{Offset, TimeZone}
 use Rattle.git_date_tool.specs.Zones.Zones.{IsFixedAt, IsOffsetZone}
@@ -13,7 +14,8 @@ pub fixed_at : (seconds : ℤ) (o : Offset) (zone : TimeZone) → o.seconds ≡ 
 unfolding IsFixedAt
 fixed_at seconds o zone is same = (o, is, same)
 
-pub offset_said : (said : Option ℤ) (seconds : ℤ) (zone : TimeZone) → Some seconds ≡ said → IsFixedAt seconds zone → IsOffsetZone said (Some zone)
+pub offset_said : (said : Option ℤ) (seconds : ℤ) (zone : TimeZone) → Some seconds ≡ said → IsFixedAt seconds zone
+    → IsOffsetZone said (Some zone)
 offset_said said seconds zone is h = subst (λ (said : Option ℤ). IsOffsetZone said (Some zone)) is h
 
 -- a text that names no file is UTC or a rule

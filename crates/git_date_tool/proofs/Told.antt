@@ -5,7 +5,8 @@ use Rattle.gix_date.specs.Text.Characters.{newline}
 use Rattle.streams.specs.Lines.{with_newline}
 use Rattle.git_date_tool.specs.Answers.Warnings.{words_by}
 
-pub number_told : (called number said : List ℕ) → called ++ (number ++ (said ++ (newline ∷ [] ++ []))) ≡ with_newline (called ++ (number ++ said))
+pub number_told : (called number said : List ℕ)
+    → called ++ (number ++ (said ++ (newline ∷ [] ++ []))) ≡ with_newline (called ++ (number ++ said))
 number_told called number said =
     sym (append_assoc called (number ++ said) (newline ∷ []) ∙ ap (λ (xs : List ℕ). called ++ xs) (append_assoc number said (newline ∷ [])))
 
@@ -18,7 +19,8 @@ in-six a b c d e f =
     ∙ ap (λ (xs : List ℕ). a ++ (b ++ (c ++ xs))) (append_assoc d (e ++ f) end)
     ∙ ap (λ (xs : List ℕ). a ++ (b ++ (c ++ (d ++ xs)))) (append_assoc e f end))
 
-pub word_told : (called number front place word : List ℕ) → called ++ (number ++ (front ++ (place ++ (codes ": " ++ (word ++ (newline ∷ [] ++ []))))))
+pub word_told : (called number front place word : List ℕ)
+    → called ++ (number ++ (front ++ (place ++ (codes ": " ++ (word ++ (newline ∷ [] ++ []))))))
     ≡ with_newline (called ++ (number ++ (front ++ (place ++ (codes ": " ++ word)))))
 word_told called number front place word = in-six called number front place (codes ": ") word
 

@@ -1,5 +1,6 @@
 -- Words of letters and digits.
-use Rattle.std.proofs.Common.{ℕ, ◌+◌, ◌<◌, ◌≤◌, length, cond, true, false, Bool, ◌≡◌, List, [], ◌∷◌, suc, zero, take, arith, refl, sym, subst}
+use Rattle.std.proofs.Common.{ℕ, ◌+◌, ◌<◌, ◌≤◌, length, cond, true, false, Bool, ◌≡◌, List, [], ◌∷◌, suc, zero, take, arith, refl, sym}
+use Rattle.std.proofs.Common.{subst}
 use Rattle.std.proofs.lemmas.List.Sums.{prefix_len-le-length}
 use Rattle.std.proofs.lemmas.Str.{IsUtf8-from_ascii}
 use Rattle.std.specs.Char.{is_ascii_alphanumeric}
@@ -58,4 +59,5 @@ word_is_ascii [] = nothing_is_ascii
 word_is_ascii (b ∷ bs) = sign_by b bs (b == plus || b == minus) refl
 
 pub word_is_utf8 : (text : List ℕ) (n : ℕ) → n ≡ word_len text → IsUtf8 (take n text)
-word_is_utf8 text n is = subst (λ (k : ℕ). IsUtf8 (take k text)) (sym is) (IsUtf8-from_ascii (take (word_len text) text) (word_is_ascii text))
+word_is_utf8 text n is =
+    subst (λ (k : ℕ). IsUtf8 (take k text)) (sym is) (IsUtf8-from_ascii (take (word_len text) text) (word_is_ascii text))

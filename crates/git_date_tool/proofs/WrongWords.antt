@@ -13,7 +13,8 @@ use Rattle.git_date_tool.specs.declared.program.Outcome.TheVariants.{Answered, S
 
 -- wrong words
 refused-by : (why : List ℕ) (reading writing telling : Change) (warned : StreamState) (outcome : Outcome) (status : Status)
-    → EndsCommand (Err why) reading (output writing (change telling.old warned)) outcome → Reports (change warned telling.new) (message_of outcome)
+    → EndsCommand (Err why) reading (output writing (change telling.old warned)) outcome
+    → Reports (change warned telling.new) (message_of outcome)
     → status ≡ status_of outcome → IsRefused why reading writing telling status
 refused-by why reading writing telling warned (Shown told) status h said is =
     let from : Reports (change telling.old telling.new) (message_of (Shown told)) =
@@ -30,5 +31,6 @@ refused-by why reading writing telling warned x status h said is = absurd h.3
 pub wrong_refused : WrongWordsAreRefused
 unfolding WrongWordsAreRefused
 wrong_refused words why reading writing telling status wrong h =
-    let ends = subst (λ (ask : Result Ask (List ℕ)). EndsCommand ask reading (output writing (change telling.old h.warned)) h.outcome) wrong h.ends in
+    let ends = subst (λ (ask : Result Ask (List ℕ)). EndsCommand ask reading (output writing (change telling.old h.warned)) h.outcome) wrong
+    h.ends in
     refused-by why reading writing telling h.warned h.outcome status ends h.reports h.status_is

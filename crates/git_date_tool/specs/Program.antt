@@ -1,5 +1,6 @@
 -- What the program does with a command line.
-use Rattle.std.specs.Prelude.{◌≡◌, ◌⊎◌, ℕ, Bool, true, false, not, ◌&&◌, List, [], ◌∷◌, ◌++◌, if◌then◌else◌, Option, Some, None, unwrap_or, Result, Ok, Err, codes}
+use Rattle.std.specs.Prelude.{◌≡◌, ◌⊎◌, ℕ, Bool, true, false, not, ◌&&◌, List, [], ◌∷◌, ◌++◌, if◌then◌else◌, Option, Some, None, unwrap_or}
+use Rattle.std.specs.Prelude.{Result, Ok, Err, codes}
 use Rattle.gix_date.specs.Devices.StreamState.{StreamState, Takes, TakesProperPrefix}
 use Rattle.jiff.specs.Types.{TimeZone}
 use Rattle.jiff.specs.Words.{zoned_nanos}
@@ -23,7 +24,7 @@ use Rattle.git_date_tool.specs.declared.program.NoNow.{NoNow}
 use Rattle.git_date_tool.specs.declared.program.NoNow.TheVariants.{Clock, NoMoment as NoMomentOf}
 use Rattle.git_date_tool.specs.declared.program.Outcome.{Outcome}
 use Rattle.git_date_tool.specs.declared.program.Outcome.TheVariants.{Answered, Fault, NoClock, Printed, Shown, Unquoted}
-use Rattle.git_date_tool.specs.declared.program.help.TheConstants.{HELP, USAGE, VERSION}
+use Rattle.git_date_tool.specs.declared.help.TheConstants.{HELP, USAGE, VERSION}
 use Rattle.git_date_tool.specs.declared.answers.Reader.TheVariants.{Approxidate}
 use Rattle.git_date_tool.specs.declared.answers.Strictness.TheVariants.{Usual}
 use Rattle.git_date_tool.specs.declared.runs.Verdict.{Verdict}
@@ -140,7 +141,8 @@ EndsRun a query reading out outcome =
 -- Why the command line is wrong though its words are right: there is no zone, or NOW is no moment in it.
 abbrev pub IsNoStart : Asked → WrongWords → Type 0
 IsNoStart a (NoZone text fault) = IsTextOf a.zone text × MayLackZone text
-IsNoStart a (NoMoment text why) = (zone : TimeZone) × IsAskedZone a.zone zone × (a.now ≡ Some text.now) × IsInstantOf zone text.now (Err why)
+IsNoStart a (NoMoment text why) = (zone : TimeZone) × IsAskedZone a.zone zone × (a.now ≡ Some text.now)
+    × IsInstantOf zone text.now (Err why)
 IsNoStart a _ = ⊥
 
 -- nothing was read, written or answered: the command line is wrong, or there was no memory for a zone, its file was not read, or no clock

@@ -49,7 +49,8 @@ number_after number (text ∷ texts) = number_after (next_number number) texts
 abbrev pub Warns : Query → ℕ → StreamState → StreamState → List Reply → Type 0
 Warns query number old new [] = new ≡ old
 Warns query number old new (reply ∷ replies) =
-    (mid : StreamState) × Reports (change old mid) (warning_line query.numbered number reply.warning) × Warns query (next_number number) mid new replies
+    (mid : StreamState) × Reports (change old mid) (warning_line query.numbered number reply.warning)
+    × Warns query (next_number number) mid new replies
 
 -- what is asked of texts, and the number of the first of them
 pub record Turn : Type 0 where
@@ -100,7 +101,8 @@ pub record Broken (turn : Turn) (texts : List (List ℕ)) (text : List ℕ) (out
   pub told : StreamState
   pub verdict : Verdict
   pub before : Answered turn texts (output (change out.writing.old written) (change out.telling.old told)) verdict
-  pub at : Serves turn.query (number_after turn.number texts) text (output (change written out.writing.new) (change told out.telling.new)) (Err fault)
+  pub at : Serves turn.query (number_after turn.number texts) text (output (change written out.writing.new) (change told out.telling.new))
+      (Err fault)
 
 -- a fault came at one of the texts
 pub record BreaksAmong (turn : Turn) (texts : List (List ℕ)) (out : Output) (fault : ToolError) : Type 0 where
@@ -128,7 +130,8 @@ result_of verdict (Err stop) = Err (fault_of stop)
 -- What a run over the lines of a source comes to: those that are due were answered.
 unfoldable pub RunsThrough : Query → Change → Output → Result Verdict ToolError → Type 0
 RunsThrough query reading out result =
-    (ended : Result ℕ Stop) × (verdict : Verdict) × Ran (AnswersLines query out verdict) (Unit {0}) MAX_LINES reading ended × (result ≡ result_of verdict ended)
+    (ended : Result ℕ Stop) × (verdict : Verdict) × Ran (AnswersLines query out verdict) (Unit {0}) MAX_LINES reading ended
+    × (result ≡ result_of verdict ended)
 
 -- the next turn of one that answers
 abbrev pub turn_of : Answering → Turn

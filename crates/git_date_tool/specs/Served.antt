@@ -9,18 +9,21 @@ use Rattle.streams.specs.Lines.{with_newline}
 use Rattle.streams.specs.Serving.{Joins, Stays}
 use Rattle.streams.proofs.Sending.{Appends-nil}
 use Rattle.git_date_tool.specs.Answers.Replies.{Reply}
-use Rattle.git_date_tool.specs.Runs.{Answered, AnswersTo, AreReplies, BreaksAmong, Serves, Turn, Warns, both, first_verdict, next_number, number_after, output, output_of, reply_lines, turn_of, verdict_on}
+use Rattle.git_date_tool.specs.Runs.{Answered, AnswersTo, AreReplies, BreaksAmong, Serves, Turn, Warns, both, first_verdict, next_number}
+use Rattle.git_date_tool.specs.Runs.{number_after, output, output_of, reply_lines, turn_of, verdict_on}
 use Rattle.git_date_tool.specs.declared.answers.Query.{Query}
 use Rattle.git_date_tool.specs.declared.runs.Verdict.{Verdict}
 
-AreReplies-append : (query : Query) (texts more : List (List ℕ)) (replies others : List Reply) → AreReplies query texts replies → AreReplies query more others
+AreReplies-append : (query : Query) (texts more : List (List ℕ)) (replies others : List Reply) → AreReplies query texts replies
+    → AreReplies query more others
     → AreReplies query (texts ++ more) (replies ++ others)
 AreReplies-append query [] more [] others h k = k
 AreReplies-append query [] more (reply ∷ replies) others h k = absurd h
 AreReplies-append query (text ∷ texts) more [] others h k = absurd h
 AreReplies-append query (text ∷ texts) more (reply ∷ replies) others h k = (h.0, AreReplies-append query texts more replies others h.1 k)
 
-Warns-append : (query : Query) (number : ℕ) (texts : List (List ℕ)) (replies others : List Reply) (a b c : StreamState) → AreReplies query texts replies
+Warns-append : (query : Query) (number : ℕ) (texts : List (List ℕ)) (replies others : List Reply) (a b c : StreamState)
+    → AreReplies query texts replies
     → Warns query number a b replies → Warns query (number_after number texts) b c others → Warns query number a c (replies ++ others)
 Warns-append query number [] [] others a b c each h k = subst (λ (s : StreamState). Warns query number s c others) h k
 Warns-append query number [] (reply ∷ replies) others a b c each h k = absurd each
@@ -28,7 +31,8 @@ Warns-append query number (text ∷ texts) [] others a b c each h k = absurd eac
 Warns-append query number (text ∷ texts) (reply ∷ replies) others a b c each h k =
     (h.0, h.1, Warns-append query (next_number number) texts replies others h.0 b c each.1 h.2 k)
 
-number_after-append : (number : ℕ) (texts more : List (List ℕ)) → number_after number (texts ++ more) ≡ number_after (number_after number texts) more
+number_after-append : (number : ℕ) (texts more : List (List ℕ))
+    → number_after number (texts ++ more) ≡ number_after (number_after number texts) more
 number_after-append number [] more = refl
 number_after-append number (text ∷ texts) more = number_after-append (next_number number) texts more
 
@@ -41,7 +45,8 @@ and_assoc true b c = refl
 and_assoc false b c = refl
 
 both-assoc : (a b c : Verdict) → both (both a b) c ≡ both a (both b c)
-both-assoc a b c = λ i. record { all_read = and_assoc a.all_read b.all_read c.all_read i; all_clear = and_assoc a.all_clear b.all_clear c.all_clear i }
+both-assoc a b c =
+    λ i. record { all_read = and_assoc a.all_read b.all_read c.all_read i; all_clear = and_assoc a.all_clear b.all_clear c.all_clear i }
 
 both-first : (verdict : Verdict) → both verdict first_verdict ≡ verdict
 both-first verdict = λ i. record { all_read = and_true verdict.all_read i; all_clear = and_true verdict.all_clear i }
@@ -53,7 +58,8 @@ verdict-append replies others = λ i. record {
 }
 
 -- some texts were answered, and then more
-Answered-append : (turn : Turn) (texts more : List (List ℕ)) (a b c d e f : StreamState) (one two : Verdict) → Answered turn texts (output (change a b) (change d e)) one
+Answered-append : (turn : Turn) (texts more : List (List ℕ)) (a b c d e f : StreamState) (one two : Verdict)
+    → Answered turn texts (output (change a b) (change d e)) one
     → Answered (record turn { number = number_after turn.number texts }) more (output (change b c) (change e f)) two
     → Answered turn (texts ++ more) (output (change a c) (change d f)) (both one two)
 Answered-append turn texts more a b c d e f one two h k = record {
@@ -96,7 +102,8 @@ more_lines a b c lines more (Err fault) h k' =
         written = k.broken.written;
         told = k.broken.told;
         verdict = both h.verdict k.broken.verdict;
-        before = Answered-append (turn_of a.server) lines k.front a.out b.out k.broken.written a.told b.told k.broken.told h.verdict k.broken.verdict h.answered k.broken.before;
+        before = Answered-append (turn_of a.server) lines k.front a.out b.out k.broken.written a.told b.told k.broken.told h.verdict
+            k.broken.verdict h.answered k.broken.before;
         at = subst (λ n. Serves a.server.query n k.text (output (change k.broken.written c.out) (change k.broken.told c.told)) (Err fault))
             (sym (number_after-append a.server.number lines k.front)) k.broken.at;
       };

@@ -91,7 +91,8 @@ impl Answer<'_> {
 
 /// Writes the line of a refusal.
 fn put_refusal<W: Sink>(refusal: Refusal, out: &mut W) -> Result<(), io::ErrorKind>
-    ensures { Streams.IsWritten (Streams.change (W.known out.old) (W.known out.new)) (Streams.with_newline (Spec.refusal_text refusal)) result }
+    ensures { Streams.IsWritten (Streams.change (W.known out.old) (W.known out.new))
+        (Streams.with_newline (Spec.refusal_text refusal)) result }
 {
     match refusal.place() {
         Some(place) => {

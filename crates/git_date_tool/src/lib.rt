@@ -2,6 +2,7 @@
 #![tactic(auto)]
 
 mod answers;
+mod help;
 pub mod laws;
 mod program;
 mod runs;

@@ -1,19 +1,18 @@
 //! What the program does with a command line.
 ghost use Rattle.std.specs.Prelude.{◌≡◌, ◌++◌, MatchResult, map, option_map, string_bytes};
 ghost use Rattle.jiff.specs.ZoneView.{plain_zone};
-ghost use Rattle.git_date_tool.specs.declared.program.help.TheConstants.{USAGE};
+ghost use Rattle.git_date_tool.specs.declared.help.TheConstants.{USAGE};
 ghost use Rattle.git_date_tool.specs as Spec;
 ghost use Rattle.streams.specs as Streams;
 ghost use Rattle.std.specs.Result.{result_map_both};
 
 pub(crate) mod arguments;
-mod help;
 mod wrong;
 
 use crate::answers::warnings::Numbered;
 use crate::answers::{Query, Reader, Shown, Strictness};
+use crate::help::{HELP, USAGE, VERSION};
 use crate::program::arguments::{Command, Request, read_words};
-use crate::program::help::{HELP, USAGE, VERSION};
 use crate::program::wrong::{WrongWords, place_digits};
 use crate::runs::{Verdict, run_over, run_through};
 use crate::zones::{NoZone, ZoneText, zone_source, zone_text};

@@ -19,7 +19,8 @@ pub(crate) fn run_over<W: Sink, M: Sink>(
     writer: &mut W,
     messages: &mut M,
 ) -> Result<Verdict, ToolError>
-    ensures { Spec.RunsOver query.entry.now (map string_bytes texts.now) (Spec.output (Streams.change (W.known writer.old) (W.known writer.new))
+    ensures { Spec.RunsOver query.entry.now (map string_bytes texts.now)
+        (Spec.output (Streams.change (W.known writer.old) (W.known writer.new))
         (Streams.change (M.known messages.old) (M.known messages.new))) result }
 {
     let mut answering = Answering::new(alloc, *query);

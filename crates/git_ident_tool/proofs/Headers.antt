@@ -17,20 +17,23 @@ use Rattle.git_ident_tool.specs.Objects.{is_filled, own_header}
 no-newline : (line : List ℕ) → IsLine line → All (λ c. is_newline c ≡ false) line
 no-newline [] h = All-nil (λ c. is_newline c ≡ false)
 no-newline (c ∷ line) h =
-    All-cons (λ x. is_newline x ≡ false) c line (ne_eqb c newline (All-head (λ b. b ≢ newline) c line h)) (no-newline line (All-tail (λ b. b ≢ newline) c line h))
+    All-cons (λ x. is_newline x ≡ false) c line (ne_eqb c newline (All-head (λ b. b ≢ newline) c line h))
+    (no-newline line (All-tail (λ b. b ≢ newline) c line h))
 
 filled : (line : List ℕ) → 0 < length line → is_filled line ≡ true
 filled line h = grind (arith, nat_tests, h)
 
 -- a line with a byte is the first
-first-line : (line : List ℕ) (parts : List (List ℕ)) → 0 < length line → take_while is_filled (line ∷ parts) ≡ line ∷ take_while is_filled parts
+first-line : (line : List ℕ) (parts : List (List ℕ)) → 0 < length line
+    → take_while is_filled (line ∷ parts) ≡ line ∷ take_while is_filled parts
 first-line line parts h = grind (arith, take_while-cons, filled)
 
 pub own-line : (line rest : List ℕ) → IsFilledLine line → own_header (with_newline line ++ rest) ≡ line ∷ own_header rest
 own-line line rest h = grind (arith, append_assoc, slice_split_at, no-newline, first-line)
 
 -- the lines that stand at the front
-pub own-lines : (lines : List (List ℕ)) (rest : List ℕ) → All IsFilledLine lines → own_header (flat_map with_newline lines ++ rest) ≡ lines ++ own_header rest
+pub own-lines : (lines : List (List ℕ)) (rest : List ℕ) → All IsFilledLine lines
+    → own_header (flat_map with_newline lines ++ rest) ≡ lines ++ own_header rest
 own-lines [] rest h = refl
 own-lines (line ∷ lines) rest h =
     ap own_header (append_assoc (with_newline line) (flat_map with_newline lines) rest)

@@ -9,10 +9,10 @@ use Rattle.git_ident_tool.specs.Judging.{object_due}
 use Rattle.git_ident_tool.specs.Objects.{Object, object_text, own_header, read_header}
 use Rattle.git_ident_tool.specs.Verdicts.{line_due, text_due}
 use Rattle.git_ident_tool.specs.declared.error.HeaderFault.TheVariants.{BadHeader, BadSize, NoObject}
-use Rattle.git_ident_tool.specs.declared.judging.verdicts.Telling.TheVariants.{Faults, All}
+use Rattle.git_ident_tool.specs.declared.verdicts.Telling.TheVariants.{Faults, All}
 use Rattle.git_ident_tool.specs.declared.program.Command.TheVariants.{Help, Judge}
 use Rattle.git_ident_tool.specs.declared.program.WrongWords.TheVariants.{NoOption}
-use Rattle.git_ident_tool.specs.declared.stream.header.Kind.TheVariants.{Blob, Commit, Tag, Tree}
+use Rattle.git_ident_tool.specs.declared.header.Kind.TheVariants.{Blob, Commit, Tag, Tree}
 
 -- ---- headers
 
@@ -50,7 +50,8 @@ size-of-65-bits = refl
 
 -- ---- lines of an object's own header
 
-ends-at-an-empty-line : own_header (codes "tree a" ++ newline ∷ codes "author b" ++ newline ∷ newline ∷ codes "author c" ++ newline ∷ []) ≡ codes "tree a" ∷ codes "author b" ∷ []
+ends-at-an-empty-line : own_header (codes "tree a" ++ newline ∷ codes "author b" ++ newline ∷ newline ∷ codes "author c" ++ newline ∷ [])
+    ≡ codes "tree a" ∷ codes "author b" ∷ []
 ends-at-an-empty-line = refl
 
 ends-with-the-object : own_header (codes "tree a" ++ newline ∷ codes "author b") ≡ codes "tree a" ∷ codes "author b" ∷ []

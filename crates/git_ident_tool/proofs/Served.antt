@@ -15,12 +15,14 @@ use Rattle.git_ident_tool.specs.declared.error.Fault.{Fault}
 use Rattle.git_ident_tool.specs.declared.judging.Judge.{Judge}
 use Rattle.git_ident_tool.specs.declared.judging.Judging.{Judging}
 use Rattle.git_ident_tool.specs.declared.judging.TheConstants.{MAX_OBJECTS}
-use Rattle.git_ident_tool.specs.declared.judging.verdicts.Telling.{Telling}
+use Rattle.git_ident_tool.specs.declared.verdicts.Telling.{Telling}
 
 -- telling of the one line had a fault
-pub breaks_one : (telling : Telling) (text : List ℕ) (old new : StreamState) (fault : ToolError) → Tells (text_due telling text) true (change old new) (Err fault)
+pub breaks_one : (telling : Telling) (text : List ℕ) (old new : StreamState) (fault : ToolError)
+    → Tells (text_due telling text) true (change old new) (Err fault)
     → BreaksAt telling (change old new) (text ∷ []) fault
-breaks_one telling text old new (errors.Write kind) h = (subst (TakesProperPrefix old new) (sym (append-nil (text_due telling text))) h.0, h.1)
+breaks_one telling text old new (errors.Write kind) h =
+    (subst (TakesProperPrefix old new) (sym (append-nil (text_due telling text))) h.0, h.1)
 breaks_one telling text old new errors.Memory h = ([], text, refl, subst (λ s. Takes old s []) (sym h) (Appends-nil old.bytes))
 breaks_one telling text old new (errors.Read kind) h = absurd h
 breaks_one telling text old new errors.LineTooLong h = absurd h
@@ -32,7 +34,8 @@ judged-from : (u v : Service Judging) (lines : List (List ℕ)) (answer : Answer
 judged-from u v lines (Ok t) fresh h = (h.0, ap (λ (s : Judging). s.clean) h.1 ∙ ap (λ b. b && list_all is_clean lines) fresh)
 judged-from u v lines (Err fault) fresh h = h
 
-ran-from : (u v : Service Judging) (most : ℕ) (reading : Change) (ended : Result ℕ Stop) → u.server.clean ≡ true → Ran (JudgesTo u v) (Unit {0}) most reading ended
+ran-from : (u v : Service Judging) (most : ℕ) (reading : Change) (ended : Result ℕ Stop) → u.server.clean ≡ true
+    → Ran (JudgesTo u v) (Unit {0}) most reading ended
     → Ran (JudgesTexts u.server.judge.telling (change u.out v.out) v.server.clean) (Unit {0}) most reading ended
 ran-from u v most reading ended fresh h = record {
   reached = h.reached;
@@ -50,7 +53,8 @@ lines_judged judge last x y m n reading ended count ran e =
     let first : Judging = record { judge = judge; clean = true } in
     (Ok count, last.clean, rw e at (ran-from (service first x m) (service last y n) _ _ _ refl ran), refl)
 
-pub lines_stopped : (judge : Judge) (last : Judging) (x y m n : StreamState) (reading : Change) (ended : Result ℕ Stop) (stop : Stop) (fault : Fault)
+pub lines_stopped : (judge : Judge) (last : Judging) (x y m n : StreamState) (reading : Change) (ended : Result ℕ Stop) (stop : Stop)
+    (fault : Fault)
     → Ran (JudgesTo (service (record { judge = judge; clean = true }) x m) (service last y n)) (Unit {0}) MAX_OBJECTS reading ended
     → ended ≡ Err stop → fault ≡ fault_in stop → JudgesLines judge.telling (flow reading (change x y)) (Err fault)
 unfolding JudgesLines

@@ -2,7 +2,8 @@
 use Rattle.std.proofs.lemmas.Bool.Decides.{nat_tests}
 use Rattle.std.proofs.lemmas.Grind.{common_steps}
 use Rattle.std.proofs.Common.{rules}
-use Rattle.std.proofs.Common.{◌≡◌, ◌≢◌, ◌∙◌, ◌⊎◌, inl, inr, ◌+◌, ◌<◌, ℕ, Bool, true, false, ◌&&◌, List, [], ◌∷◌, ◌++◌, length, refl, sym, ap, ap₂, subst, append_assoc, append-nil, length-append, arith, Option, None, Some, Ok, Err}
+use Rattle.std.proofs.Common.{◌≡◌, ◌≢◌, ◌∙◌, ◌⊎◌, inl, inr, ◌+◌, ◌<◌, ℕ, Bool, true, false, ◌&&◌, List, [], ◌∷◌, ◌++◌, length, refl, sym}
+use Rattle.std.proofs.Common.{ap, ap₂, subst, append_assoc, append-nil, length-append, arith, Option, None, Some, Ok, Err}
 use Rattle.std.proofs.lemmas.List.Concat.{flat_map-append}
 use Rattle.std.proofs.lemmas.List.Elements.{All-append, All-cons, All-head, All-nil}
 use Rattle.std.proofs.lemmas.List.Folds.{list_all-append}
@@ -17,16 +18,18 @@ use Rattle.streams.specs.declared.error.ToolError.{ToolError}
 use Rattle.streams.specs.declared.error.ToolError.TheVariants as errors
 use Rattle.streams.specs.declared.lines.TheConstants.{MAX_LINE_LEN}
 use Rattle.git_ident_tool.specs.Cursor.{ReadsLine, Skips}
-use Rattle.git_ident_tool.specs.Judging.{flow, lines_due, are_clean, object_due, objects_due, is_clean_object, Wrote, Causes, StopsWithin, JudgesAll, JudgesPart, IsBeyond, IsOfInput, SkipsRest, StopsInRest, broken_due, JudgesWhole, BreaksObject, JudgesObject, InHeader, AtHeader, AfterHeader, StopsAfterObjects, StopsHeader, id_of}
+use Rattle.git_ident_tool.specs.Judging.{flow, lines_due, are_clean, object_due, objects_due, is_clean_object, Wrote, Causes, StopsWithin}
+use Rattle.git_ident_tool.specs.Judging.{JudgesAll, JudgesPart, IsBeyond, IsOfInput, SkipsRest, StopsInRest, broken_due, JudgesWhole}
+use Rattle.git_ident_tool.specs.Judging.{BreaksObject, JudgesObject, InHeader, AtHeader, AfterHeader, StopsAfterObjects, StopsHeader, id_of}
 use Rattle.git_ident_tool.specs.Objects.{Object, IsObject, lines_of, object_text, read_header, stream_text}
 use Rattle.git_ident_tool.specs.declared.error.Fault.{Fault}
 use Rattle.git_ident_tool.specs.declared.error.Fault.TheVariants.{Tool, Refused, Stream}
 use Rattle.git_ident_tool.specs.declared.error.StreamFault.TheVariants.{BadEnd, EarlyEnd, TooMany}
 use Rattle.git_ident_tool.specs.declared.judging.TheConstants.{MAX_OBJECTS}
-use Rattle.git_ident_tool.specs.declared.judging.verdicts.Telling.{Telling}
+use Rattle.git_ident_tool.specs.declared.verdicts.Telling.{Telling}
 use Rattle.git_ident_tool.specs.declared.stream.LineEnd.{LineEnd}
 use Rattle.git_ident_tool.specs.declared.stream.LineEnd.TheVariants.{Newline, Full}
-use Rattle.git_ident_tool.specs.declared.stream.header.Header.{Header}
+use Rattle.git_ident_tool.specs.declared.header.Header.{Header}
 use Rattle.git_ident_tool.proofs.Judged.{ObjectsSoFar, Appends-nil, Gives-more, Takes-more, Wrote-more, Wrote-all}
 
 -- ---- the end of an object
@@ -58,7 +61,8 @@ skips_to_byte left a b c line all end skipped e ended f =
     }
 
 -- a fault came at that byte, which was not read
-skips-to-fault : (left : ℕ) (a b c : StreamState) (line : List ℕ) (fault : ToolError) → Skips left a b (Ok true) → ReadsLine 1 b c line (Err fault)
+skips-to-fault : (left : ℕ) (a b c : StreamState) (line : List ℕ) (fault : ToolError) → Skips left a b (Ok true)
+    → ReadsLine 1 b c line (Err fault)
     → StopsInRest left (change a c) (Tool fault)
 skips-to-fault left a b c line errors.Memory h read = grind (arith, nat_tests, common_steps, no-bytes)
 skips-to-fault left a b c line (errors.Read kind) h read = grind (arith, nat_tests, common_steps, no-bytes)
@@ -66,13 +70,16 @@ skips-to-fault left a b c line (errors.Write kind) h read = absurd read.ends
 skips-to-fault left a b c line errors.LineTooLong h read = absurd read.ends
 skips-to-fault left a b c line errors.TooManyLines h read = absurd read.ends
 
-pub skips_to_fault : (left : ℕ) (a b c : StreamState) (line : List ℕ) (all : Bool) (fault : ToolError) → Skips left a b (Ok all) → all ≡ true
+pub skips_to_fault : (left : ℕ) (a b c : StreamState) (line : List ℕ) (all : Bool) (fault : ToolError) → Skips left a b (Ok all)
+    → all ≡ true
     → ReadsLine 1 b c line (Err fault) → StopsInRest left (change a c) (Tool fault)
-skips_to_fault left a b c line all fault skipped e read = skips-to-fault left a b c line fault (subst (λ all. Skips left a b (Ok all)) e skipped) read
+skips_to_fault left a b c line all fault skipped e read =
+    skips-to-fault left a b c line fault (subst (λ all. Skips left a b (Ok all)) e skipped) read
 
 -- ---- an object
 
-pub judges_object : (telling : Telling) (header id : List ℕ) (said : Header) (a b c x y : StreamState) (answer : Bool × ℕ) → id ≡ id_of header → read_header header ≡ Ok said
+pub judges_object : (telling : Telling) (header id : List ℕ) (said : Header) (a b c x y : StreamState) (answer : Bool × ℕ)
+    → id ≡ id_of header → read_header header ≡ Ok said
     → JudgesAll telling id said (flow (change a b) (change x y)) answer → SkipsRest answer.1 (change b c)
     → JudgesWhole telling header (flow (change a c) (change x y)) answer.0
 judges_object telling header id said a b c x y answer is says h skipped =
@@ -83,21 +90,24 @@ judges_object telling header id said a b c x y answer is says h skipped =
       kind = said.kind;
       contents = contents;
       says = says ∙ ap (λ (n : ℕ). Ok (record { kind = said.kind; size = n })) (sym long);
-      given = subst (Gives a c) (sym (append_assoc h.part skipped.rest (newline ∷ []))) (Gives-more a b c h.part (with_newline skipped.rest) h.given skipped.given);
+      given = subst (Gives a c) (sym (append_assoc h.part skipped.rest (newline ∷ [])))
+          (Gives-more a b c h.part (with_newline skipped.rest) h.given skipped.given);
       wrote = subst (λ (i : List ℕ). Takes x y (lines_due telling i said.kind (lines_of said.kind contents))) is
           (subst (λ (ls : List (List ℕ)). Takes x y (lines_due telling id said.kind ls)) lines h.wrote);
       clean_is = h.clean ∙ ap (are_clean said.kind) lines;
     }
 
 -- nothing is beyond where a fault came within the lines
-none-beyond : (fault : Fault) (size : ℕ) (part : List ℕ) (lines : List (List ℕ)) → StopsWithin fault part lines → IsBeyond fault size part []
+none-beyond : (fault : Fault) (size : ℕ) (part : List ℕ) (lines : List (List ℕ)) → StopsWithin fault part lines
+    → IsBeyond fault size part []
 none-beyond (Tool fault) size part lines h = refl
 none-beyond (Stream EarlyEnd) size part lines h = refl
 none-beyond (Refused why) size part lines h = refl
 none-beyond (Stream BadEnd) size part lines h = absurd h
 none-beyond (Stream TooMany) size part lines h = refl
 
-pub breaks_lines : (telling : Telling) (header id : List ℕ) (said : Header) (a b x y : StreamState) (fault : Fault) → id ≡ id_of header → read_header header ≡ Ok said
+pub breaks_lines : (telling : Telling) (header id : List ℕ) (said : Header) (a b x y : StreamState) (fault : Fault) → id ≡ id_of header
+    → read_header header ≡ Ok said
     → JudgesPart telling id said (flow (change a b) (change x y)) fault → BreaksObject telling header (flow (change a b) (change x y)) fault
 breaks_lines telling header id said a b x y fault is says h = record {
   broken = record {
@@ -116,14 +126,16 @@ breaks_lines telling header id said a b x y fault is says h = record {
 }
 
 -- what is beyond the rest is beyond the contents
-beyond-all : (fault : Fault) (left size : ℕ) (part rest beyond : List ℕ) → length part + left ≡ size → IsBeyond fault left rest beyond → IsBeyond fault size (part ++ rest) beyond
+beyond-all : (fault : Fault) (left size : ℕ) (part rest beyond : List ℕ) → length part + left ≡ size → IsBeyond fault left rest beyond
+    → IsBeyond fault size (part ++ rest) beyond
 beyond-all (Tool fault) left size part rest beyond counted h = h
 beyond-all (Stream EarlyEnd) left size part rest beyond counted h = h
 beyond-all (Refused why) left size part rest beyond counted h = h
 beyond-all (Stream TooMany) left size part rest beyond counted h = h
 beyond-all (Stream BadEnd) left size part rest beyond counted h = (omega (arith, length-append part rest, counted, h.0), h.1)
 
-pub breaks_rest : (telling : Telling) (header id : List ℕ) (said : Header) (a b c x y : StreamState) (answer : Bool × ℕ) (fault : Fault) → id ≡ id_of header → read_header header ≡ Ok said
+pub breaks_rest : (telling : Telling) (header id : List ℕ) (said : Header) (a b c x y : StreamState) (answer : Bool × ℕ) (fault : Fault)
+    → id ≡ id_of header → read_header header ≡ Ok said
     → JudgesAll telling id said (flow (change a b) (change x y)) answer → StopsInRest answer.1 (change b c) fault
     → BreaksObject telling header (flow (change a c) (change x y)) fault
 breaks_rest telling header id said a b c x y answer fault is says h stops = record {
@@ -138,7 +150,8 @@ breaks_rest telling header id said a b c x y answer fault is says h stops = reco
     stops = inr (λ more fits. ap (lines_of said.kind) (append_assoc h.part stops.rest more)
         ∙ h.settled (stops.rest ++ more) (ap length (sym (append_assoc h.part stops.rest more)) ∙ fits));
   };
-  given = subst (Gives a c) (sym (append_assoc h.part stops.rest stops.beyond)) (Gives-more a b c h.part (stops.rest ++ stops.beyond) h.given stops.given);
+  given = subst (Gives a c) (sym (append_assoc h.part stops.rest stops.beyond))
+      (Gives-more a b c h.part (stops.rest ++ stops.beyond) h.given stops.given);
   wrote = subst (λ (i : List ℕ). Wrote (change x y) (lines_due telling i said.kind h.lines) fault) is
       (Wrote-all (change x y) (lines_due telling id said.kind h.lines) fault stops.of_input h.wrote);
   cause = stops.cause;
@@ -151,13 +164,15 @@ fresh None unread e = tt
 fresh (Some xs) unread e = sym (ap (λ (ys : List ℕ). ys ++ xs) e)
 
 -- what is read ahead of what was looked at
-pub ahead : (first known : Option (List ℕ)) (read unread : List ℕ) → Consumes first (prepend_known unread known) read → Consumes first known (read ++ unread)
+pub ahead : (first known : Option (List ℕ)) (read unread : List ℕ) → Consumes first (prepend_known unread known) read
+    → Consumes first known (read ++ unread)
 ahead None known read unread h = tt
 ahead (Some xs) None read unread h = absurd h
 ahead (Some xs) (Some ys) read unread h = h ∙ sym (append_assoc read unread ys)
 
 -- nothing is, where the input is over
-pub none-ahead : (first known : Option (List ℕ)) (read unread : List ℕ) → Consumes first (prepend_known unread known) read → IsAtEnd (prepend_known unread known) → Consumes first known read
+pub none-ahead : (first known : Option (List ℕ)) (read unread : List ℕ) → Consumes first (prepend_known unread known) read
+    → IsAtEnd (prepend_known unread known) → Consumes first known read
 none-ahead None known read unread h end = tt
 none-ahead (Some xs) None read unread h end = absurd h
 none-ahead (Some xs) (Some ys) read unread h end =
@@ -205,14 +220,17 @@ next-object telling a b c d x y z header clean one count far read h =
       each = All-append IsObject far.objects (object ∷ []) far.each
           (All-cons IsObject object [] (record { is_line = read.is_line; says = h.says }) (All-nil IsObject));
       given = subst (Gives a d)
-          (sym (flat_map-append object_text far.objects (object ∷ []) ∙ ap (λ (xs : List ℕ). stream_text far.objects ++ xs) (append-nil (object_text object))))
+          (sym (flat_map-append object_text far.objects (object ∷ [])
+          ∙ ap (λ (xs : List ℕ). stream_text far.objects ++ xs) (append-nil (object_text object))))
           (Gives-more a b d (stream_text far.objects) (object_text object) far.given
           (Gives-more b c d (with_newline header) (with_newline h.contents) read.ends.0 h.given));
       wrote = subst (Takes x z)
-          (sym (flat_map-append (object_due telling) far.objects (object ∷ []) ∙ ap (λ (xs : List ℕ). objects_due telling far.objects ++ xs) (append-nil due)))
+          (sym (flat_map-append (object_due telling) far.objects (object ∷ [])
+          ∙ ap (λ (xs : List ℕ). objects_due telling far.objects ++ xs) (append-nil due)))
           (Takes-more x y z (objects_due telling far.objects) due far.wrote h.wrote);
       clean_is = ap₂ (λ (p q : Bool). p && q) far.clean_is h.clean_is
-          ∙ sym (list_all-append is_clean_object far.objects (object ∷ []) ∙ ap (λ (q : Bool). list_all is_clean_object far.objects && q) (and-true (is_clean_object object)));
+          ∙ sym (list_all-append is_clean_object far.objects (object ∷ [])
+          ∙ ap (λ (q : Bool). list_all is_clean_object far.objects && q) (and-true (is_clean_object object)));
       counted = length-append far.objects (object ∷ []) ∙ ap (λ (n : ℕ). n + 1) far.counted;
     }
 
@@ -237,14 +255,16 @@ stops-after telling a b source x y z unread front due clean count fault far give
 
 -- where a header may begin
 pub stops-header : (telling : Telling) (a b source x y : StreamState) (unread front : List ℕ) (clean : Bool) (count : ℕ) (fault : Fault)
-    → ObjectsSoFar telling (flow (change a b) (change x y)) clean count → Gives b (at unread source) front → IsLine front → StopsHeader fault front count → IsOfInput fault
+    → ObjectsSoFar telling (flow (change a b) (change x y)) clean count → Gives b (at unread source) front → IsLine front
+    → StopsHeader fault front count → IsOfInput fault
     → Causes (at unread source) fault → StopsAfterObjects telling (flow (change a source) (change x y)) fault
 stops-header telling a b source x y unread front clean count fault far given is_line stops of_input cause =
     stops-after telling a b source x y y unread front [] clean count fault far given
     (inl (record { is_line = is_line; stops = subst (StopsHeader fault front) (sym far.counted) stops; none_due = refl }))
     (Wrote-all (change y y) [] fault of_input (Appends-nil y.bytes)) cause
 
-pub stops-reading-header : (telling : Telling) (a b source x y : StreamState) (unread front : List ℕ) (clean : Bool) (count : ℕ) (fault : ToolError)
+pub stops-reading-header : (telling : Telling) (a b source x y : StreamState) (unread front : List ℕ) (clean : Bool) (count : ℕ)
+    (fault : ToolError)
     → ObjectsSoFar telling (flow (change a b) (change x y)) clean count → ReadsLine MAX_LINE_LEN b (at unread source) front (Err fault)
     → StopsAfterObjects telling (flow (change a source) (change x y)) (Tool fault)
 stops-reading-header telling a b source x y unread front clean count errors.Memory far read = search (rules, stops-header)
@@ -258,10 +278,12 @@ pub stops-full : (telling : Telling) (a source x y : StreamState) (unread : List
     → ObjectsSoFar telling (flow (change a (at unread source)) (change x y)) clean count → count ≡ MAX_OBJECTS
     → StopsAfterObjects telling (flow (change a source) (change x y)) (Stream TooMany)
 stops-full telling a source x y unread clean count far full =
-    stops-header telling a (at unread source) source x y unread [] clean count (Stream TooMany) far (Consumes-nil (prepend_known unread source.bytes)) (All-nil (λ b. b ≢ newline)) (refl, full) tt tt
+    stops-header telling a (at unread source) source x y unread [] clean count (Stream TooMany) far
+    (Consumes-nil (prepend_known unread source.bytes)) (All-nil (λ b. b ≢ newline)) (refl, full) tt tt
 
 -- an object whose header was read is broken, or its header is none
-pub stops-object : (telling : Telling) (a b c source x y z : StreamState) (unread header : List ℕ) (clean : Bool) (count : ℕ) (fault : Fault)
+pub stops-object : (telling : Telling) (a b c source x y z : StreamState) (unread header : List ℕ) (clean : Bool) (count : ℕ)
+    (fault : Fault)
     → ObjectsSoFar telling (flow (change a b) (change x y)) clean count → ReadsLine MAX_LINE_LEN b c header (Ok Newline)
     → JudgesObject telling header (flow (change c (at unread source)) (change y z)) (Err fault)
     → StopsAfterObjects telling (flow (change a source) (change x z)) fault
@@ -270,9 +292,11 @@ stops-object telling a b c source x y z unread header clean count fault far read
     (subst (λ (f : Fault). StopsAfterObjects telling (flow (change a source) (change x y)) f) (sym h.is)
     (stops-after telling a b source x y y unread (with_newline header) [] clean count (Refused h.why) far
     (subst (λ (s : StreamState). Gives b s (with_newline header)) (sym h.unread) read.ends.0)
-    (inr (inl (record { header = header; is_line = read.is_line; front_is = refl; why = h.why; fault_is = refl; says = h.says; none_due = refl })))
+    (inr (inl (record
+    { header = header; is_line = read.is_line; front_is = refl; why = h.why; fault_is = refl; says = h.says; none_due = refl })))
     (Appends-nil y.bytes) tt))
 stops-object telling a b c source x y z unread header clean count fault far read (inr h) =
-    stops-after telling a b source x y z unread (with_newline header ++ (h.broken.part ++ h.broken.beyond)) (broken_due telling h.broken) clean count fault far
+    stops-after telling a b source x y z unread (with_newline header ++ (h.broken.part ++ h.broken.beyond)) (broken_due telling h.broken)
+    clean count fault far
     (Gives-more b c (at unread source) (with_newline header) (h.broken.part ++ h.broken.beyond) read.ends.0 h.given)
     (inr (inr (record { header = header; is_line = read.is_line; broken = h.broken; front_is = refl; due_is = refl }))) h.wrote h.cause

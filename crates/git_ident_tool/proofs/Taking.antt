@@ -1,7 +1,9 @@
 -- Bytes of a source taken line by line, or skipped.
 use Rattle.std.proofs.lemmas.Bool.Decides.{nat_tests}
 use Rattle.std.proofs.lemmas.Grind.{common_steps}
-use Rattle.std.proofs.Common.{◌≡◌, ◌∙◌, ◌+◌, ◌-◌, ◌<◌, ◌≤◌, ℕ, Bool, true, false, List, [], ◌∷◌, ◌++◌, length, take, drop, refl, sym, ap, append_assoc, append-nil, length-append, length-take, length-drop, drop-drop, arith, Option, None, Some, Ok, Err}
+use Rattle.std.proofs.Common.{◌≡◌, ◌∙◌, ◌+◌, ◌-◌, ◌<◌, ◌≤◌, ℕ, Bool, true, false, List, [], ◌∷◌, ◌++◌, length, take, drop, refl, sym, ap}
+use Rattle.std.proofs.Common.{append_assoc, append-nil, length-append, length-take, length-drop, drop-drop, arith, Option, None, Some, Ok}
+use Rattle.std.proofs.Common.{Err}
 use Rattle.std.proofs.lemmas.List.{drop-take, drop_all, take-append-drop}
 use Rattle.std.specs.Io.KnownBytes.{Consumes, IsAtEnd, Keeps, prepend_known}
 use Rattle.std.specs.declared.io.ErrorKind.{ErrorKind}
@@ -20,7 +22,8 @@ drop_front [] ys = refl
 drop_front (x ∷ xs) ys = drop_front xs ys
 
 -- what is unread once so many bytes of it are taken
-pub unread-after : (bytes : List ℕ) (from to used : ℕ) → from + used ≤ to → take (to - (from + used)) (drop (from + used) bytes) ≡ drop used (take (to - from) (drop from bytes))
+pub unread-after : (bytes : List ℕ) (from to used : ℕ) → from + used ≤ to
+    → take (to - (from + used)) (drop (from + used) bytes) ≡ drop used (take (to - from) (drop from bytes))
 unread-after bytes from to used fits =
     let more : used + (to - (from + used)) ≡ to - from = omega (arith, fits) in
     ap (λ (xs : List ℕ). take (to - (from + used)) xs) (sym (drop-drop used from bytes))
@@ -42,7 +45,8 @@ pub front-cut : (text front rest : List ℕ) (n : ℕ) → text ≡ front ++ res
 front-cut text front rest n e is = grind (arith, drop_front)
 
 -- the unread bytes begin with a line and its newline
-takes-end : (most : ℕ) (text next line longer part after : List ℕ) → take most text ≡ part ++ newline ∷ after → IsLine part → longer ≡ line ++ part
+takes-end : (most : ℕ) (text next line longer part after : List ℕ) → take most text ≡ part ++ newline ∷ after → IsLine part
+    → longer ≡ line ++ part
     → next ≡ drop (length part + 1) text → TakesEnd most (record { unread = text; line = line }) (record { unread = next; line = longer })
 takes-end most text next line longer part after cut is_line grown left =
     let front = part ++ newline ∷ [] in
@@ -62,7 +66,8 @@ takes-end most text next line longer part after cut is_line grown left =
 -- they are a front of a line
 takes-front : (most : ℕ) (text next line longer front : List ℕ) → front ≡ take most text → IsLine front → longer ≡ line ++ front
     → next ≡ drop (length front) text → TakesFront most (record { unread = text; line = line }) (record { unread = next; line = longer })
-takes-front most text next line longer front is is_line grown left = grind (arith, nat_tests, common_steps, front-cut, take-append-drop, length-take, drop_all)
+takes-front most text next line longer front is is_line grown left =
+    grind (arith, nat_tests, common_steps, front-cut, take-append-drop, length-take, drop_all)
 
 -- the unread bytes have room for a line and its newline
 has-room : (bytes : List ℕ) (from to most : ℕ) (part after : List ℕ) → from ≤ to → to ≤ length bytes
@@ -89,14 +94,17 @@ front_taken bytes from to most line longer front in_order within is is_line grow
     let text = take (to - from) (drop from bytes) in
     takes-front most text _ line longer front is is_line grown
     (unread-after bytes from to (length front)
-    (let room : from + length front ≤ to = omega (arith, ap length is, length-take most text, unread-length bytes from to in_order within, in_order) in room))
+    (let room : from + length front ≤ to =
+    omega (arith, ap length is, length-take most text, unread-length bytes from to in_order within, in_order) in room))
 
-taken-left : (known : Option (List ℕ)) (text next used : List ℕ) → text ≡ used ++ next → Consumes (prepend_known text known) (prepend_known next known) used
+taken-left : (known : Option (List ℕ)) (text next used : List ℕ) → text ≡ used ++ next
+    → Consumes (prepend_known text known) (prepend_known next known) used
 taken-left None text next used e = tt
 taken-left (Some xs) text next used e = ap (λ (zs : List ℕ). zs ++ xs) e ∙ append_assoc used next xs
 
 -- bytes that were taken, and then some that were unread
-pub takes-more : (first source : StreamState) (text next taken used : List ℕ) → Gives first (at text source) taken → text ≡ used ++ next → Gives first (at next source) (taken ++ used)
+pub takes-more : (first source : StreamState) (text next taken used : List ℕ) → Gives first (at text source) taken → text ≡ used ++ next
+    → Gives first (at next source) (taken ++ used)
 takes-more first source text next taken used given e = grind (arith, nat_tests, common_steps, taken-left)
 
 -- a line has begun, of which at most so many bytes are asked for
@@ -107,7 +115,8 @@ pub record Begun (most : ℕ) (first now : StreamState) (line : List ℕ) : Type
 
 -- the input is over, or its source refused
 -- as much was read as was asked for
-pub ends-full : (most : ℕ) (first now : StreamState) (line : List ℕ) → Begun most first now line → length line ≡ most → ReadsLine most first now line (Ok Full)
+pub ends-full : (most : ℕ) (first now : StreamState) (line : List ℕ) → Begun most first now line → length line ≡ most
+    → ReadsLine most first now line (Ok Full)
 ends-full most first now line begun full = record { is_line = begun.is_line; ends = (begun.given, full) }
 
 -- what is unread grew by what a source gave, where nothing was
@@ -130,12 +139,15 @@ Skipped-all count first source text next left less none fewer h = record {
   counted = omega (arith, length-append h.bytes text, h.counted, fewer);
 }
 
-pub Skipped-kept : (count : ℕ) (first now new : StreamState) (left : ℕ) → Skipped count first now left → Keeps now.bytes new.bytes → Skipped count first new left
+pub Skipped-kept : (count : ℕ) (first now new : StreamState) (left : ℕ) → Skipped count first now left → Keeps now.bytes new.bytes
+    → Skipped count first new left
 Skipped-kept count first now new left h kept = grind (arith)
 
 -- all that was unread is skipped, and more is asked for
-pub skips-on : (count : ℕ) (first source : StreamState) (bytes : List ℕ) (from to left : ℕ) → from ≤ to → to ≤ length bytes → to - from < left
-    → Skipped count first (at (take (to - from) (drop from bytes)) source) left → Skipped count first (at (take (to - to) (drop to bytes)) source) (left - (to - from))
+pub skips-on : (count : ℕ) (first source : StreamState) (bytes : List ℕ) (from to left : ℕ) → from ≤ to → to ≤ length bytes
+    → to - from < left
+    → Skipped count first (at (take (to - from) (drop from bytes)) source) left
+    → Skipped count first (at (take (to - to) (drop to bytes)) source) (left - (to - from))
 skips-on count first source bytes from to left in_order within few h =
     let none : to - to ≡ 0 = omega arith in
     Skipped-all count first source (take (to - from) (drop from bytes)) (take (to - to) (drop to bytes)) left (left - (to - from))
@@ -143,12 +155,14 @@ skips-on count first source bytes from to left in_order within few h =
     (omega (arith, unread-length bytes from to in_order within, few)) h
 
 -- the input is over, or its source refused, before all is skipped
-pub skips-out : (count : ℕ) (first now new : StreamState) (unread : List ℕ) (left : ℕ) (more : Bool) → more ≡ false → 0 < left → Skipped count first now left
+pub skips-out : (count : ℕ) (first now new : StreamState) (unread : List ℕ) (left : ℕ) (more : Bool) → more ≡ false → 0 < left
+    → Skipped count first now left
     → Refills unread now new (Ok more) → Skips count first new (Ok false)
 skips-out count first now new unread left true e some h r = cc
 skips-out count first now new unread left false e some h r = grind (arith, Skipped-kept)
 
-pub skips-fault : (count : ℕ) (first now new : StreamState) (unread : List ℕ) (left : ℕ) (kind : ErrorKind) → 0 < left → Skipped count first now left
+pub skips-fault : (count : ℕ) (first now new : StreamState) (unread : List ℕ) (left : ℕ) (kind : ErrorKind) → 0 < left
+    → Skipped count first now left
     → Refills unread now new (Err kind) → Skips count first new (Err kind)
 skips-fault count first now new unread left kind some h r = grind (arith, Skipped-kept)
 
@@ -162,7 +176,8 @@ skips-last count first source text next left few is h = record {
   ends = omega (arith, length-append h.bytes (take left text), length-take left text, h.counted, few);
 }
 
-pub advanced : (bytes : List ℕ) (from to used place : ℕ) → from ≤ to → to ≤ length bytes → used ≤ length (take (to - from) (drop from bytes))
+pub advanced : (bytes : List ℕ) (from to used place : ℕ) → from ≤ to → to ≤ length bytes
+    → used ≤ length (take (to - from) (drop from bytes))
     → place ≡ to - ((to - from) - used) → take (to - place) (drop place bytes) ≡ drop used (take (to - from) (drop from bytes))
 advanced bytes from to used place in_order within few is =
     let fits : from + used ≤ to = omega (arith, few, unread-length bytes from to in_order within, in_order) in

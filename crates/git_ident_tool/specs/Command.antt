@@ -1,7 +1,7 @@
 -- What the words of a command line ask for.
 use Rattle.std.specs.Prelude.{ℕ, true, false, List, [], ◌∷◌, Result, Ok, Err, if◌then◌else◌, codes}
 use Rattle.std.specs.Str.{bytes_eq}
-use Rattle.git_ident_tool.specs.declared.judging.verdicts.Telling.TheVariants.{Faults, All}
+use Rattle.git_ident_tool.specs.declared.verdicts.Telling.TheVariants.{Faults, All}
 use Rattle.git_ident_tool.specs.declared.program.Command.{Command}
 use Rattle.git_ident_tool.specs.declared.program.Command.TheVariants.{Judge, Help, Version}
 use Rattle.git_ident_tool.specs.declared.program.Request.{Request}

@@ -16,9 +16,9 @@ use Rattle.git_ident_tool.specs.declared.error.HeaderFault.{HeaderFault}
 use Rattle.git_ident_tool.specs.declared.error.HeaderFault.TheVariants.{BadHeader}
 use Rattle.git_ident_tool.specs.declared.error.StreamFault.TheVariants.{BadEnd, EarlyEnd, TooMany}
 use Rattle.git_ident_tool.specs.declared.judging.TheConstants.{MAX_OBJECTS}
-use Rattle.git_ident_tool.specs.declared.judging.verdicts.Telling.{Telling}
-use Rattle.git_ident_tool.specs.declared.stream.header.Header.{Header}
-use Rattle.git_ident_tool.specs.declared.stream.header.Kind.{Kind}
+use Rattle.git_ident_tool.specs.declared.verdicts.Telling.{Telling}
+use Rattle.git_ident_tool.specs.declared.header.Header.{Header}
+use Rattle.git_ident_tool.specs.declared.header.Kind.{Kind}
 
 -- what is done with an input and an output
 pub record Flow : Type 0 where

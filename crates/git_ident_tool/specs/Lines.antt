@@ -15,7 +15,7 @@ use Rattle.git_ident_tool.specs.declared.error.Fault.TheVariants.{Tool, Stream}
 use Rattle.git_ident_tool.specs.declared.error.StreamFault.TheVariants.{TooMany}
 use Rattle.git_ident_tool.specs.declared.judging.Judging.{Judging}
 use Rattle.git_ident_tool.specs.declared.judging.TheConstants.{MAX_OBJECTS}
-use Rattle.git_ident_tool.specs.declared.judging.verdicts.Telling.{Telling}
+use Rattle.git_ident_tool.specs.declared.verdicts.Telling.{Telling}
 
 -- what is due for lines
 abbrev pub texts_due : Telling → List (List ℕ) → List ℕ
@@ -48,7 +48,8 @@ result_of clean (Err stop) = Err (fault_in stop)
 -- What judging the lines of an input comes to: those that are due were judged.
 unfoldable pub JudgesLines : Telling → Flow → Result Bool Fault → Type 0
 JudgesLines telling f result =
-    (ended : Result ℕ Stop) × (clean : Bool) × Ran (JudgesTexts telling f.writing clean) (Unit {0}) MAX_OBJECTS f.reading ended × (result ≡ result_of clean ended)
+    (ended : Result ℕ Stop) × (clean : Bool) × Ran (JudgesTexts telling f.writing clean) (Unit {0}) MAX_OBJECTS f.reading ended
+    × (result ≡ result_of clean ended)
 
 -- what judging some lines comes to, after others
 abbrev pub JudgesTo : Service Judging → Service Judging → List (List ℕ) → Answer → Type 0

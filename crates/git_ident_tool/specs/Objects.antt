@@ -1,5 +1,6 @@
 -- Objects as `git cat-file --batch` prints them, and the lines of their headers.
-use Rattle.std.specs.Prelude.{◌≡◌, ℕ, Bool, true, false, ◌&&◌, ◌||◌, nat_eq, nat_lt, List, [], ◌∷◌, ◌++◌, length, drop, Option, Some, None, Result, Ok, Err, if◌then◌else◌, codes, take_while}
+use Rattle.std.specs.Prelude.{◌≡◌, ℕ, Bool, true, false, ◌&&◌, ◌||◌, nat_eq, nat_lt, List, [], ◌∷◌, ◌++◌, length, drop, Option, Some, None}
+use Rattle.std.specs.Prelude.{Result, Ok, Err, if◌then◌else◌, codes, take_while}
 use Rattle.std.specs.Char.{is_ascii_digit}
 use Rattle.std.specs.List.{after_first, find, flat_map, list_all, slice_split, starts_with, ends_with}
 use Rattle.std.specs.Str.Parse.{digits_value}
@@ -9,9 +10,9 @@ use Rattle.gix_signature.specs.Ident.Bytes.{is_newline}
 use Rattle.gix_signature.specs.Ident.Times.{held_number}
 use Rattle.git_ident_tool.specs.declared.error.HeaderFault.{HeaderFault}
 use Rattle.git_ident_tool.specs.declared.error.HeaderFault.TheVariants.{BadHeader, BadSize, NoObject}
-use Rattle.git_ident_tool.specs.declared.stream.header.Header.{Header}
-use Rattle.git_ident_tool.specs.declared.stream.header.Kind.{Kind}
-use Rattle.git_ident_tool.specs.declared.stream.header.Kind.TheVariants.{Commit, Tag, Tree, Blob}
+use Rattle.git_ident_tool.specs.declared.header.Header.{Header}
+use Rattle.git_ident_tool.specs.declared.header.Kind.{Kind}
+use Rattle.git_ident_tool.specs.declared.header.Kind.TheVariants.{Commit, Tag, Tree, Blob}
 
 -- a text begins with these bytes
 abbrev pub begins : List ℕ → List ℕ → Bool

@@ -16,8 +16,8 @@ use Rattle.git_ident_tool.specs.declared.program.Command.{Command}
 use Rattle.git_ident_tool.specs.declared.program.Command.TheVariants.{Judge, Help, Version}
 use Rattle.git_ident_tool.specs.declared.program.WrongWords.{WrongWords}
 use Rattle.git_ident_tool.specs.declared.program.WrongWords.TheVariants.{NoOption, NotText}
-use Rattle.git_ident_tool.specs.declared.program.help.TheConstants.{HELP, USAGE, VERSION}
-use Rattle.git_ident_tool.specs.declared.judging.verdicts.Telling.{Telling}
+use Rattle.git_ident_tool.specs.declared.help.TheConstants.{HELP, USAGE, VERSION}
+use Rattle.git_ident_tool.specs.declared.verdicts.Telling.{Telling}
 use Rattle.git_ident_tool.specs.declared.program.Outcome.{Outcome}
 use Rattle.git_ident_tool.specs.declared.program.Outcome.TheVariants.{Judged, Failed, Printed, Shown}
 
@@ -67,7 +67,8 @@ end_of (Err fault) = Failed fault
 
 -- what the program comes to by the words of its command line: for another command nothing is read
 abbrev pub EndsCommand : Result Command WrongWords → Flow → Outcome → Type 0
-EndsCommand (Ok (Judge request)) f outcome = (result : Result Bool Fault) × JudgesAs request.lines request.telling f result × (outcome ≡ end_of result)
+EndsCommand (Ok (Judge request)) f outcome = (result : Result Bool Fault) × JudgesAs request.lines request.telling f result
+    × (outcome ≡ end_of result)
 EndsCommand (Ok Help) f outcome = (f.reading.new ≡ f.reading.old) × Prints HELP.now f.writing outcome
 EndsCommand (Ok Version) f outcome = (f.reading.new ≡ f.reading.old) × Prints VERSION.now f.writing outcome
 EndsCommand (Err why) f outcome = (f.reading.new ≡ f.reading.old) × (f.writing.new ≡ f.writing.old) × (outcome ≡ Shown why)

@@ -13,7 +13,7 @@ use Rattle.streams.proofs.Sending.{Appends-nil}
 use Rattle.git_ident_tool.specs.Lines.{BreaksAt, JudgesTo, texts_due}
 use Rattle.git_ident_tool.specs.Verdicts.{is_clean, text_due}
 use Rattle.git_ident_tool.specs.declared.judging.Judging.{Judging}
-use Rattle.git_ident_tool.specs.declared.judging.verdicts.Telling.{Telling}
+use Rattle.git_ident_tool.specs.declared.verdicts.Telling.{Telling}
 
 and_true : (a : Bool) → (a && true) ≡ a
 and_true true = refl
@@ -24,15 +24,20 @@ and_assoc true b c = refl
 and_assoc false b c = refl
 
 -- what was written of lines, and a fault at the last of more
-breaks-after : (telling : Telling) (a b c : StreamState) (lines more : List (List ℕ)) (fault : ToolError) → Takes a b (texts_due telling lines)
+breaks-after : (telling : Telling) (a b c : StreamState) (lines more : List (List ℕ)) (fault : ToolError)
+    → Takes a b (texts_due telling lines)
     → BreaksAt telling (change b c) more fault → BreaksAt telling (change a c) (lines ++ more) fault
-breaks-after telling a b c lines more (errors.Write kind) h k =
-    (subst (TakesProperPrefix a c) (sym (flat_map-append (text_due telling) lines more)) (Cut-after a b c (texts_due telling lines) (texts_due telling more) h k.0), k.1)
+breaks-after telling a b c lines more (errors.Write kind) h k = (
+  subst (TakesProperPrefix a c) (sym (flat_map-append (text_due telling) lines more))
+      (Cut-after a b c (texts_due telling lines) (texts_due telling more) h k.0),
+  k.1,
+)
 breaks-after telling a b c lines more errors.Memory h k = (
   lines ++ k.0,
   k.1,
   ap (λ xs. lines ++ xs) k.2 ∙ sym (append_assoc lines k.0 (k.1 ∷ [])),
-  subst (Takes a c) (sym (flat_map-append (text_due telling) lines k.0)) (Appends-append a.bytes b.bytes c.bytes (texts_due telling lines) (texts_due telling k.0) h k.3),
+  subst (Takes a c) (sym (flat_map-append (text_due telling) lines k.0))
+      (Appends-append a.bytes b.bytes c.bytes (texts_due telling lines) (texts_due telling k.0) h k.3),
 )
 breaks-after telling a b c lines more (errors.Read kind) h k = absurd k
 breaks-after telling a b c lines more errors.LineTooLong h k = absurd k
@@ -56,4 +61,5 @@ more_lines a b c lines more (Ok u) h k =
     )
 more_lines a b c lines more (Err fault) h k =
     let same = ap (λ (s : Judging). s.judge.telling) h.1 in
-    breaks-after a.server.judge.telling a.out b.out c.out lines more fault h.0 (subst (λ t. BreaksAt t (change b.out c.out) more fault) same k)
+    breaks-after a.server.judge.telling a.out b.out c.out lines more fault h.0
+    (subst (λ t. BreaksAt t (change b.out c.out) more fault) same k)

@@ -1,5 +1,6 @@
 -- Identity lines judged, and what is told of them.
-use Rattle.std.specs.Prelude.{◌≡◌, ℕ, Bool, true, not, List, [], ◌∷◌, ◌++◌, length, drop, Option, Some, None, Result, Ok, Err, if◌then◌else◌, codes, option_map}
+use Rattle.std.specs.Prelude.{◌≡◌, ℕ, Bool, true, not, List, [], ◌∷◌, ◌++◌, length, drop, Option, Some, None, Result, Ok, Err}
+use Rattle.std.specs.Prelude.{if◌then◌else◌, codes, option_map}
 use Rattle.std.specs.List.{find}
 use Rattle.std.specs.Option.{is_some, option_map_or}
 use Rattle.gix_date.specs.Devices.StreamState.{Takes, TakesProperPrefix}
@@ -9,14 +10,16 @@ use Rattle.streams.specs.declared.error.ToolError.{ToolError}
 use Rattle.streams.specs.declared.error.ToolError.TheVariants as errors
 use Rattle.gix_signature.specs.Ident.Fsck.{fsck_of}
 use Rattle.gix_signature.specs.declared.fsck.FsckId.{FsckId}
-use Rattle.gix_signature.specs.declared.fsck.FsckId.TheVariants.{NulInHeader, MissingNameBeforeEmail, BadName, MissingEmail, MissingSpaceBeforeEmail, BadEmail, MissingSpaceBeforeDate, ZeroPaddedDate, BadDateOverflow, BadDate, BadTimezone}
+use Rattle.gix_signature.specs.declared.fsck.FsckId.TheVariants.{NulInHeader, MissingNameBeforeEmail, BadName, MissingEmail}
+use Rattle.gix_signature.specs.declared.fsck.FsckId.TheVariants.{MissingSpaceBeforeEmail, BadEmail, MissingSpaceBeforeDate, ZeroPaddedDate}
+use Rattle.gix_signature.specs.declared.fsck.FsckId.TheVariants.{BadDateOverflow, BadDate, BadTimezone}
 use Rattle.git_ident_tool.specs.Objects.{begins}
-use Rattle.git_ident_tool.specs.declared.judging.verdicts.Role.{Role}
-use Rattle.git_ident_tool.specs.declared.judging.verdicts.Role.TheVariants.{Author, Committer, Tagger}
-use Rattle.git_ident_tool.specs.declared.judging.verdicts.Telling.{Telling}
-use Rattle.git_ident_tool.specs.declared.judging.verdicts.Telling.TheVariants.{Faults, All}
-use Rattle.git_ident_tool.specs.declared.stream.header.Kind.{Kind}
-use Rattle.git_ident_tool.specs.declared.stream.header.Kind.TheVariants.{Commit, Tag, Tree, Blob}
+use Rattle.git_ident_tool.specs.declared.verdicts.Role.{Role}
+use Rattle.git_ident_tool.specs.declared.verdicts.Role.TheVariants.{Author, Committer, Tagger}
+use Rattle.git_ident_tool.specs.declared.verdicts.Telling.{Telling}
+use Rattle.git_ident_tool.specs.declared.verdicts.Telling.TheVariants.{Faults, All}
+use Rattle.git_ident_tool.specs.declared.header.Kind.{Kind}
+use Rattle.git_ident_tool.specs.declared.header.Kind.TheVariants.{Commit, Tag, Tree, Blob}
 
 -- what a role is called
 abbrev pub role_words : Role → List ℕ

@@ -5,14 +5,10 @@ ghost use Rattle.git_ident_tool.specs as Spec;
 ghost use Rattle.gix_date.specs as GixDate;
 ghost use Rattle.streams.specs as Streams;
 
-pub(crate) mod verdicts;
-
 use crate::error::{Fault, HeaderFault, StreamFault};
-use crate::judging::verdicts::{
-    Role, Telling, fault_of, is_told, line_reply, object_reply, role_in,
-};
-use crate::stream::header::{Header, Kind, id_of, read_header};
+use crate::header::{Header, Kind, id_of, read_header};
 use crate::stream::{Cursor, LineEnd};
+use crate::verdicts::{Role, Telling, fault_of, is_told, line_reply, object_reply, role_in};
 use gix_date::device::{Device, Sink, Source, put_all};
 use std::alloc::Global;
 use std::io;
@@ -74,7 +70,8 @@ impl Judge {
         reader: &mut R,
         writer: &mut W,
     ) -> Result<bool, Fault>
-        ensures { Spec.JudgesObject self.telling header.now (Spec.flow (Streams.change (Spec.input cursor.old (R.known reader.old)) (Spec.input cursor.new (R.known reader.new)))
+        ensures { Spec.JudgesObject self.telling header.now
+            (Spec.flow (Streams.change (Spec.input cursor.old (R.known reader.old)) (Spec.input cursor.new (R.known reader.new)))
             (Streams.change (W.known writer.old) (W.known writer.new))) result }
     {
         let said = match read_header(header) {
@@ -108,51 +105,14 @@ impl Judge {
         reader: &mut R,
         writer: &mut W,
     ) -> Result<(bool, usize), Fault>
-        ensures { Spec.JudgesHeader self.telling id.now said (Spec.flow (Streams.change (Spec.input cursor.old (R.known reader.old)) (Spec.input cursor.new (R.known reader.new)))
+        ensures { Spec.JudgesHeader self.telling id.now said
+            (Spec.flow (Streams.change (Spec.input cursor.old (R.known reader.old)) (Spec.input cursor.new (R.known reader.new)))
             (Streams.change (W.known writer.old) (W.known writer.new))) result }
     {
         if !has_own_header(said.kind) {
             return Ok((true, said.size));
         }
-        self.judge_header(id, said, cursor, line, reader, writer)
-    }
-
-    /// Judges the lines of an object's own header, to its first empty line.
-    fn judge_header<R: Source, W: Sink>(
-        self,
-        id: &[u8],
-        said: Header,
-        cursor: &mut Cursor,
-        line: &mut Vec<u8>,
-        reader: &mut R,
-        writer: &mut W,
-    ) -> Result<(bool, usize), Fault>
-        requires { Spec.has_own_header said.kind ≡ true }
-        ensures { Spec.JudgesHeader self.telling id.now said (Spec.flow (Streams.change (Spec.input cursor.old (R.known reader.old)) (Spec.input cursor.new (R.known reader.new)))
-            (Streams.change (W.known writer.old) (W.known writer.new))) result }
-    {
-        let mut clean = true;
-        let mut left = said.size;
-        'lines: loop {
-            match cursor.next(reader, left, line) {
-                Ok(LineEnd::Newline) => left -= line.len() + 1,
-                Ok(LineEnd::Full) => {
-                    return match self.judge_line(id, said.kind, line.as_slice(), writer) {
-                        Ok(one) => Ok((both(clean, one), 0)),
-                        Err(fault) => Err(Fault::Tool(fault)),
-                    };
-                }
-                Ok(LineEnd::Input) => return Err(Fault::Stream(StreamFault::EarlyEnd)),
-                Err(fault) => return Err(Fault::Tool(fault)),
-            }
-            if line.is_empty() {
-                return Ok((clean, left));
-            }
-            match self.judge_line(id, said.kind, line.as_slice(), writer) {
-                Ok(one) => clean = both(clean, one),
-                Err(fault) => return Err(Fault::Tool(fault)),
-            }
-        }
+        judge_header(self, id, said, cursor, line, reader, writer)
     }
 
     /// Judges a line of an object's header.
@@ -163,7 +123,8 @@ impl Judge {
         line: &[u8],
         writer: &mut W,
     ) -> Result<bool, ToolError>
-        ensures { Spec.Tells (Spec.line_due self.telling id.now kind line.now) (Spec.is_clean_in kind line.now) (Streams.change (W.known writer.old) (W.known writer.new)) result }
+        ensures { Spec.Tells (Spec.line_due self.telling id.now kind line.now) (Spec.is_clean_in kind line.now)
+            (Streams.change (W.known writer.old) (W.known writer.new)) result }
     {
         match role_in(kind, line) {
             Some(role) => self.judge_role(id, role, line, writer),
@@ -179,7 +140,9 @@ impl Judge {
         line: &[u8],
         writer: &mut W,
     ) -> Result<bool, ToolError>
-        ensures { Spec.Tells (Spec.role_due self.telling id.now line.now role) (Spec.is_clean (drop (length (Spec.role_start role)) line.now)) (Streams.change (W.known writer.old) (W.known writer.new)) result }
+        ensures { Spec.Tells (Spec.role_due self.telling id.now line.now role)
+            (Spec.is_clean (drop (length (Spec.role_start role)) line.now)) (Streams.change (W.known writer.old) (W.known writer.new))
+            result }
     {
         let text = after(line, role.start().len());
         let fault = fault_of(text);
@@ -190,6 +153,45 @@ impl Judge {
             put_all(writer, reply.as_slice()).map_err(ToolError::Write)?;
         }
         Ok(fault.is_none())
+    }
+}
+
+/// Judges the lines of an object's own header, to its first empty line.
+fn judge_header<R: Source, W: Sink>(
+    judge: Judge,
+    id: &[u8],
+    said: Header,
+    cursor: &mut Cursor,
+    line: &mut Vec<u8>,
+    reader: &mut R,
+    writer: &mut W,
+) -> Result<(bool, usize), Fault>
+    requires { Spec.has_own_header said.kind ≡ true }
+    ensures { Spec.JudgesHeader judge.telling id.now said
+        (Spec.flow (Streams.change (Spec.input cursor.old (R.known reader.old)) (Spec.input cursor.new (R.known reader.new)))
+        (Streams.change (W.known writer.old) (W.known writer.new))) result }
+{
+    let mut clean = true;
+    let mut left = said.size;
+    'lines: loop {
+        match cursor.next(reader, left, line) {
+            Ok(LineEnd::Newline) => left -= line.len() + 1,
+            Ok(LineEnd::Full) => {
+                return match judge.judge_line(id, said.kind, line.as_slice(), writer) {
+                    Ok(one) => Ok((both(clean, one), 0)),
+                    Err(fault) => Err(Fault::Tool(fault)),
+                };
+            }
+            Ok(LineEnd::Input) => return Err(Fault::Stream(StreamFault::EarlyEnd)),
+            Err(fault) => return Err(Fault::Tool(fault)),
+        }
+        if line.is_empty() {
+            return Ok((clean, left));
+        }
+        match judge.judge_line(id, said.kind, line.as_slice(), writer) {
+            Ok(one) => clean = both(clean, one),
+            Err(fault) => return Err(Fault::Tool(fault)),
+        }
     }
 }
 
@@ -226,7 +228,8 @@ fn end_object<R: Source>(
     line: &mut Vec<u8>,
     reader: &mut R,
 ) -> Result<(), Fault>
-    ensures { Spec.EndsObject left (Streams.change (Spec.input cursor.old (R.known reader.old)) (Spec.input cursor.new (R.known reader.new))) result }
+    ensures { Spec.EndsObject left
+        (Streams.change (Spec.input cursor.old (R.known reader.old)) (Spec.input cursor.new (R.known reader.new))) result }
 {
     match cursor.skip(reader, left) {
         Ok(true) => {}
@@ -279,7 +282,8 @@ impl Judge {
 
     /// Judges an identity line that stands in no object.
     fn judge_text<W: Sink>(self, text: &[u8], writer: &mut W) -> Result<bool, ToolError>
-        ensures { Spec.Tells (Spec.text_due self.telling text.now) (Spec.is_clean text.now) (Streams.change (W.known writer.old) (W.known writer.new)) result }
+        ensures { Spec.Tells (Spec.text_due self.telling text.now) (Spec.is_clean text.now)
+            (Streams.change (W.known writer.old) (W.known writer.new)) result }
     {
         let fault = fault_of(text);
         if is_told(self.telling, fault) {

@@ -2,11 +2,14 @@
 #![tactic(auto)]
 
 mod error;
+mod header;
+mod help;
 mod judging;
 mod program;
 mod stream;
+mod verdicts;
 
 pub use error::{Fault, HeaderFault, StreamFault};
 pub use judging::Judge;
-pub use judging::verdicts::Telling;
 pub use program::{execute, show_usage};
+pub use verdicts::Telling;

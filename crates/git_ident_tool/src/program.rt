@@ -1,15 +1,13 @@
 //! What the program does with a command line.
 ghost use Rattle.std.specs.Prelude.{◌≡◌, map, string_bytes};
-ghost use Rattle.git_ident_tool.specs.declared.program.help.TheConstants.{USAGE};
+ghost use Rattle.git_ident_tool.specs.declared.help.TheConstants.{USAGE};
 ghost use Rattle.git_ident_tool.specs as Spec;
 ghost use Rattle.streams.specs as Streams;
 
-mod help;
-
 use crate::error::Fault;
+use crate::help::{HELP, USAGE, VERSION};
 use crate::judging::Judge;
-use crate::judging::verdicts::Telling;
-use crate::program::help::{HELP, USAGE, VERSION};
+use crate::verdicts::Telling;
 use gix_date::device::{Sink, Source};
 use std::alloc::Global;
 use streams::{Status, print, tell_fault, write_message};
@@ -48,7 +46,8 @@ fn dispatch<R: Source, W: Sink>(
     reader: &mut R,
     writer: &mut W,
 ) -> Outcome
-    ensures { Spec.EndsCommand (Spec.asked (map string_bytes words.now)) (Spec.flow (Streams.change (R.known reader.old) (R.known reader.new))
+    ensures { Spec.EndsCommand (Spec.asked (map string_bytes words.now))
+        (Spec.flow (Streams.change (R.known reader.old) (R.known reader.new))
         (Streams.change (W.known writer.old) (W.known writer.new))) result }
 {
     match read_words(words) {

@@ -1,8 +1,6 @@
 //! The bytes of a source, line by line, or skipped.
 ghost use Rattle.std.specs.Prelude.{◌≡◌, ◌≤◌, length, take, drop};
 
-pub(crate) mod header;
-
 use gix_date::device::Source;
 use std::alloc::AllocError;
 use std::io;

@@ -1,19 +1,21 @@
-//! What clocks show: the day of the week, the date and the time of day, and their texts.
+//! What clocks show: the day of the week, the date and the time of day, their texts, and the instants that they are.
 ghost use Rattle.std.specs.Prelude.{◌≡◌, ◌≤◌, ◌<◌, ◌%◌, pos, unsigned_abs, FitsSigned};
 ghost use Rattle.std.specs.Int.{IsInRange, int_div_euclid, int_rem_euclid, w64};
 ghost use Rattle.jiff_core.specs.Calendar.{IsEpochDay, weekday_number};
 ghost use Rattle.gix_date.specs.Fields.ClockNumbers.{hours_in, minutes_in, seconds_per_day, seconds_per_minute};
 ghost use Rattle.gix_date.specs.Header.Text.{hundred_hours};
 ghost use Rattle.gix_date.specs.Printing.LocalClocks.{clock_of, local_seconds, IsShowable};
+ghost use Rattle.jiff.specs.Words.{IsOffsetSeconds};
+ghost use Rattle.gix_date.specs as Spec;
 
 mod pieces;
 mod texts;
 
-use crate::civil::{ClockFields, DateFields};
 use crate::time::{
-    OffsetInSeconds, SECONDS_PER_DAY, SECONDS_PER_HOUR, SECONDS_PER_MINUTE, SecondsSinceUnixEpoch,
-    Time,
+    FIRST_SECOND, LAST_SECOND, OffsetInSeconds, SECONDS_PER_DAY, SECONDS_PER_HOUR,
+    SECONDS_PER_MINUTE, SecondsSinceUnixEpoch, Time,
 };
+use jiff::civil::DateTime;
 use jiff_core::civil::Date;
 pub use pieces::{
     push_clock, push_colon_offset, push_date, push_day, push_hours, push_minutes, push_month,
@@ -24,6 +26,87 @@ pub use texts::{
     push_bare_default, push_default, push_git_rfc2822, push_gitoxide, push_iso8601,
     push_iso8601_strict, push_rfc2822,
 };
+
+/// A year, month and day, whether or not the calendar has it.
+#[derive(Clone, Copy)]
+pub(crate) struct DateFields {
+    pub(crate) year: u16,
+    pub(crate) month: u8,
+    pub(crate) day: u8,
+}
+
+/// An hour, minute and second, whether or not the day has it.
+#[derive(Clone, Copy)]
+pub(crate) struct ClockFields {
+    pub(crate) hour: u8,
+    pub(crate) minute: u8,
+    pub(crate) second: u8,
+}
+
+/// The beginning of a day.
+const MIDNIGHT: ClockFields = ClockFields {
+    hour: 0,
+    minute: 0,
+    second: 0,
+};
+
+/// The seconds since 1970-01-01 00:00:00 UTC of this clock on this day, at this offset from UTC.
+///
+/// `None` if the calendar has no such day, the day no such clock, or `jiff` no such instant.
+pub(crate) fn civil_instant(
+    date: DateFields,
+    clock: ClockFields,
+    offset: OffsetInSeconds,
+) -> Option<SecondsSinceUnixEpoch>
+    requires date { Spec.DateFits date }
+    requires clock { Spec.ClockFits clock }
+    requires offset { IsOffsetSeconds offset }
+    ensures { result ≡ Spec.civil_instant date clock offset }
+{
+    instant_at(date, clock, offset)
+}
+
+/// The instant of a day's midnight in UTC: the constant clock leaves less to compute.
+#[inline(always)]
+pub(crate) fn midnight_instant(date: DateFields) -> Option<SecondsSinceUnixEpoch>
+    requires { Spec.DateFits date }
+    ensures { result ≡ Spec.civil_instant date Spec.midnight (pos 0) }
+{
+    instant_at(date, MIDNIGHT, 0)
+}
+
+/// The body of both, inlined so that a constant clock folds away, and fields need not be packed for a call.
+#[inline(always)]
+pub(crate) fn instant_at(
+    date: DateFields,
+    clock: ClockFields,
+    offset: OffsetInSeconds,
+) -> Option<SecondsSinceUnixEpoch>
+    requires date { Spec.DateFits date }
+    requires clock { Spec.ClockFits clock }
+    requires offset { IsOffsetSeconds offset }
+    ensures { result ≡ Spec.civil_instant date clock offset }
+{
+    let (year, month, day) = (date.year as i16, date.month as i8, date.day as i8);
+    let (hour, minute, second) = (clock.hour as i8, clock.minute as i8, clock.second as i8);
+    let Ok(local) = DateTime::new(year, month, day, hour, minute, second, 0) else {
+        return None;
+    };
+    let seconds = local.to_plain().to_second() - i64::from(offset);
+    if FIRST_SECOND <= seconds && seconds <= LAST_SECOND {
+        Some(seconds)
+    } else {
+        None
+    }
+}
+
+/// Whether the calendar has this day.
+pub(crate) fn is_date(date: DateFields) -> bool
+    requires { Spec.DateFits date }
+    ensures { result ≡ Spec.is_date date }
+{
+    jiff::civil::Date::new(date.year as i16, date.month as i8, date.day as i8).is_ok()
+}
 
 /// What the clock of a time shows in a year of four digits, at an offset below 100 hours. Contracts see it as a `LocalTime`.
 #[derive(Clone, Copy)]

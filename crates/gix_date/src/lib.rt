@@ -18,7 +18,6 @@
 #![tactic(auto)]
 
 pub mod bytes;
-mod civil;
 pub mod clock;
 pub mod device;
 mod error;

@@ -1,8 +1,9 @@
 //! The names of months and of days of the week.
 //!
-//! Dates show the first three letters of a name ([`month_name`], [`day_name`]). A word tells a name by its first three letters or
+//! Dates show the first three letters of a name ([`month_name`], [`day_name`]) or the whole ([`whole_month_name`],
+//! [`whole_day_name`]). A word tells a name by its first three letters or
 //! more, in any letter case ([`month_told`], [`weekday_told`]). No call takes memory.
-ghost use Rattle.std.specs.Prelude.{◌≡◌, ◌<◌, length, map, option_map, if◌then◌else◌, Some, None, IfSome};
+ghost use Rattle.std.specs.Prelude.{◌≡◌, ◌<◌, ◌≤◌, length, map, option_map, if◌then◌else◌, Some, None, IfSome};
 ghost use Rattle.std.specs.List.{find};
 ghost use Rattle.std.specs.Str.{bytes_eq};
 ghost use Rattle.std.specs.Int.{IsInRange};
@@ -47,6 +48,47 @@ pub fn day_name(weekday: u8) -> &'static str
         4 => "Fri",
         5 => "Sat",
         6 => "Sun",
+        _ => unreachable!(),
+    }
+}
+
+/// The whole name of a day of the week, from 0 for Monday.
+pub fn whole_day_name(weekday: u8) -> &'static str
+    requires { weekday < 7 }
+    ensures name { result.now ≡ Spec.whole_day_name weekday }
+    ensures len { length result.now ≤ 9 }
+{
+    match weekday {
+        0 => "Monday",
+        1 => "Tuesday",
+        2 => "Wednesday",
+        3 => "Thursday",
+        4 => "Friday",
+        5 => "Saturday",
+        6 => "Sunday",
+        _ => unreachable!(),
+    }
+}
+
+/// The whole name of a month, from 1 for January.
+pub fn whole_month_name(month: u8) -> &'static str
+    requires { IsInRange 1 12 month }
+    ensures name { result.now ≡ Spec.whole_month_name month }
+    ensures len { length result.now ≤ 9 }
+{
+    match month {
+        1 => "January",
+        2 => "February",
+        3 => "March",
+        4 => "April",
+        5 => "May",
+        6 => "June",
+        7 => "July",
+        8 => "August",
+        9 => "September",
+        10 => "October",
+        11 => "November",
+        12 => "December",
         _ => unreachable!(),
     }
 }

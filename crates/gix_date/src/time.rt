@@ -1,5 +1,6 @@
 //! A time, and what it is written as.
-ghost use Rattle.std.specs.Prelude.{◌≢◌, ◌↔◌, pos, IsTrue, ◌≡◌, option_map, unwrap_or, IsOk, IfOk, IfErr, ◌+◌, ◌≤◌, length, None, Err, IfSome};
+ghost use Rattle.std.specs.Prelude.{◌≢◌, ◌↔◌, pos, IsTrue, ◌≡◌, option_map, unwrap_or, IsOk, IfOk, IfErr, ◌+◌, ◌≤◌, length, None, Err};
+ghost use Rattle.std.specs.Prelude.{IfSome};
 ghost use Rattle.jiff.specs.Words.{plain_zone};
 ghost use Rattle.gix_date.specs as Spec;
 ghost use Rattle.gix_date.specs.declared.error.Error.TheVariants.{Conversion};

@@ -14,7 +14,8 @@ use contract.BorrowLft.{◌⊑◌}
 use prog.Model.{Model}
 use prog.Wired.{Wired}
 use types.Logic.{Logic, sem}
-use types.Kit.{‵, raw, ◌⊛◌, some, later, ◌$◌, ◌∵◌, !, qed, by, move, keep, use0, use1, split, join, fjoin, pick, await, updating, now, show, frame, done}
+use types.Kit.{‵, raw, ◌⊛◌, some, later, ◌$◌, ◌∵◌, !, qed, by, move, keep, use0, use1, split, join, fjoin, pick, await, updating, now, show}
+use types.Kit.{frame, done}
 use denote.Builtin.{unit}
 use denote.Exit.{no}
 use denote.Laws.{Is}
@@ -79,14 +80,17 @@ Data = Struct (shape handle.the_type)
 
 module _ {M : Type 1} {𝓤 : Ura M} (𝓛 : Logic 𝓤) where
   -- A pointer and a `Global` are had for nothing, so that a handle is no more than what it holds.
-  pub fits : (h : handle.the_row.Denot) → ent 𝓤 (sem 𝓛 (held_owns h.alloc h.at h.held)) (sem 𝓛 (handle.the_row.own_val h (handle_laws.lowered h ∷ [])))
+  pub fits : (h : handle.the_row.Denot)
+      → ent 𝓤 (sem 𝓛 (held_owns h.alloc h.at h.held)) (sem 𝓛 (handle.the_row.own_val h (handle_laws.lowered h ∷ [])))
   fits h = qed 𝓛 (‵ (held_owns h.alloc h.at h.held) ∷ []) ∵
-      owned ! Data (Is Data) (Struct-Makes 𝓛 (shape handle.the_type) (rawptr_pure, (heap_laws.the_field_plain, tt))) (to handle.the_type h) (handle_laws.lowered h ∷ [])
+      owned ! Data (Is Data) (Struct-Makes 𝓛 (shape handle.the_type) (rawptr_pure, (heap_laws.the_field_plain, tt))) (to handle.the_type h)
+      (handle_laws.lowered h ∷ [])
       ((_, (_, tt)), (refl, (refl, (one_global h.alloc, tt)))) $ fjoin ! $ done !
 
   -- `'static` never ends, and its token is had for nothing.
   pub never_ends : ent 𝓤 (emp 𝓤) (sep 𝓤 (𝓛.A.lft [] full_share) (sep 𝓤 (𝓛.A.lft [] full_share) (emp 𝓤)))
-  never_ends = qed 𝓛 [] ∵ use0 𝓛 (‵ (flft [] full_share)) (𝓛.lfts.lft-nil full_share) $ frame ! $ use0 𝓛 (‵ (flft [] full_share)) (𝓛.lfts.lft-nil full_share) $ frame ! $ done !
+  never_ends = qed 𝓛 [] ∵ use0 𝓛 (‵ (flft [] full_share)) (𝓛.lfts.lft-nil full_share) $ frame !
+      $ use0 𝓛 (‵ (flft [] full_share)) (𝓛.lfts.lft-nil full_share) $ frame ! $ done !
 
   -- A zone and a `Global` name nothing that ends before it.
   pub outlive : (P : SProp 𝓤) → ent 𝓤 P (sep 𝓤 (fact 𝓤 ([] ⊑ Zone.lives)) (sep 𝓤 (fact 𝓤 ([] ⊑ Alloc.lives)) P))
@@ -94,17 +98,27 @@ module _ {M : Type 1} {𝓤 : Ura M} (𝓛 : Logic 𝓤) where
       use0 𝓛 (raw (fact 𝓤 ([] ⊑ Alloc.lives))) (fact_i 𝓤 _ (emp 𝓤) (heap_laws.the_within [])) $ frame ! $ done !
 
 -- The drop of a zone asks for no token. So it can be called with that of any lifetime, which it hands back.
-pub zone_goes : {M : Type 1} (𝓤 : Ura M) (𝓛 : Logic 𝓤) (𝓜 : Model 𝓤 𝓛.H) (𝓡 : Running 𝓤 𝓛.H 𝓜) → Wired 𝓡.env drops_symbol.code → glue.Met 𝓛 𝓜 𝓡 𝓡.env Zone lets_zone_go
+pub zone_goes : {M : Type 1} (𝓤 : Ura M) (𝓛 : Logic 𝓤) (𝓜 : Model 𝓤 𝓛.H) (𝓡 : Running 𝓤 𝓛.H 𝓜) → Wired 𝓡.env drops_symbol.code
+    → glue.Met 𝓛 𝓜 𝓡 𝓡.env Zone lets_zone_go
 zone_goes 𝓤 𝓛 𝓜 𝓡 wired z =
     let k = method lets_zone_go 0 no_args in let r = 𝓡.env k in
     let D = triple_of 𝓛 drops.signature (drops.spec 𝓛 𝓜.mem 𝓡.returns) in let y : D.Ghost = ((tt, tt, tt, z.0.3, z.0.4), tt) in
     let G = triple_of 𝓛 (glue.signature Zone) (glue.spent 𝓛 Zone) in
     let token = ‵ (flft z.0.0.0 z.0.1.0) in
-    qed 𝓛 (((token ⊛ ‵ ftrue) ⊛ ‵ (fsep (held.the_row.own_val z.0.3.0 z.0.4.0) ftrue)) ∷ (raw (fact 𝓤 (z.0.0.0 ⊑ Zone.lives)) ⊛ ‵ ftrue) ∷ []) {P = 𝓡.run r (D.args y) (G.post z)} (
+    qed 𝓛
+    (((token ⊛ ‵ ftrue) ⊛ ‵ (fsep (held.the_row.own_val z.0.3.0 z.0.4.0) ftrue)) ∷ (raw (fact 𝓤 (z.0.0.0 ⊑ Zone.lives)) ⊛ ‵ ftrue) ∷ [])
+    {P = 𝓡.run r (D.args y) (G.post z)} (
     split ! $ split ! $ move ! (2 ∷ 0 ∷ []) $ keep ! (0 ∷ 1 ∷ []) $ nothing ! $ join ! $ nothing ! $ move ! (1 ∷ 0 ∷ []) $ join ! $
-    use1 𝓛 (raw (𝓡.run r (D.args y) (D.post y))) (widened 𝓤 𝓛.H D 𝓜 𝓡 𝓡.env (𝓡.env drops_symbol.name) r (drops_symbol.as_method 𝓡.env wired k refl) (drops_met.met 𝓤 𝓛 𝓜 𝓡 wired) y) $
-    by ! (run_framed 𝓤 𝓛.H 𝓜 𝓡 r (D.args y) (D.post y) (G.post z) (𝓛.A.lft z.0.0.0 z.0.1.0) (λ v. qed 𝓛 (raw (D.post y v) ∷ token ∷ []) ∵ updating ! $
-    use1 𝓛 (later (some (λ (u : Unit {0}). (‵ ftrue ⊛ ‵ (unit.own_val u (v ∷ []))) ⊛ some (λ (ws : Lasts drops.ended tt z.0.3). ‵ (lasts drops.ended tt z.0.3 ws) ⊛ ‵ ftrue)))) (id⊢ 𝓤 _) $
-    await ! tt $ pick ! (λ u. split ! $ split ! $ now ! $ show ! (λ (x : Unit {0}). sep 𝓤 (Back 𝓛 (glue.signature Zone) z.0 v x) (ex 𝓤 (λ (ws : Unit {0} × Unit {0}). sep 𝓤 (sem 𝓛 (fsep ftrue ftrue)) (emp 𝓤)))) u $
-    keep ! (3 ∷ 1 ∷ []) $ nothing ! $ move ! (1 ∷ 0 ∷ []) $ join ! $ join ! $ frame ! $ show ! (λ (ws : Unit {0} × Unit {0}). sep 𝓤 (sem 𝓛 (fsep ftrue ftrue)) (emp 𝓤)) (tt, tt) $
+    use1 𝓛 (raw (𝓡.run r (D.args y) (D.post y)))
+    (widened 𝓤 𝓛.H D 𝓜 𝓡 𝓡.env (𝓡.env drops_symbol.name) r (drops_symbol.as_method 𝓡.env wired k refl) (drops_met.met 𝓤 𝓛 𝓜 𝓡 wired) y)
+    $
+    by ! (run_framed 𝓤 𝓛.H 𝓜 𝓡 r (D.args y) (D.post y) (G.post z) (𝓛.A.lft z.0.0.0 z.0.1.0)
+    (λ v. qed 𝓛 (raw (D.post y v) ∷ token ∷ []) ∵ updating ! $
+    use1 𝓛 (later (some (λ (u : Unit {0}).
+    (‵ ftrue ⊛ ‵ (unit.own_val u (v ∷ []))) ⊛ some (λ (ws : Lasts drops.ended tt z.0.3). ‵ (lasts drops.ended tt z.0.3 ws) ⊛ ‵ ftrue))))
+    (id⊢ 𝓤 _) $
+    await ! tt $ pick ! (λ u. split ! $ split ! $ now ! $ show ! (λ (x : Unit {0}).
+    sep 𝓤 (Back 𝓛 (glue.signature Zone) z.0 v x) (ex 𝓤 (λ (ws : Unit {0} × Unit {0}). sep 𝓤 (sem 𝓛 (fsep ftrue ftrue)) (emp 𝓤)))) u $
+    keep ! (3 ∷ 1 ∷ []) $ nothing ! $ move ! (1 ∷ 0 ∷ []) $ join ! $ join ! $ frame !
+    $ show ! (λ (ws : Unit {0} × Unit {0}). sep 𝓤 (sem 𝓛 (fsep ftrue ftrue)) (emp 𝓤)) (tt, tt) $
     nothing ! $ nothing ! $ nothing ! $ join ! $ done !))))

@@ -16,7 +16,8 @@ kind-back Human = refl
 kind-back Raw = refl
 kind-back Unix = refl
 
-mode-back : (kind : DateKind) (local : Bool) → mode_of (mode_for_c (record { kind = kind; local = local })) ≡ Some (record { kind = kind; local = local })
+mode-back : (kind : DateKind) (local : Bool)
+    → mode_of (mode_for_c (record { kind = kind; local = local })) ≡ Some (record { kind = kind; local = local })
 mode-back kind true = rw (kind-back kind) refl
 mode-back kind false = rw (kind-back kind) refl
 

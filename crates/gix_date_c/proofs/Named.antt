@@ -12,7 +12,8 @@ use Rattle.jiff.specs.Words.{plain_zone, IsOffsetSeconds}
 use Rattle.jiff.specs.declared.tz.TimeZone.{TimeZone as LentZone}
 use Rattle.git_date.specs.Exact.ZoneTexts.{zone_offset}
 use Rattle.gix_date_c.specs.Moments.{IsOffsetZone, IsTextZone}
-use Rattle.gix_date_c.specs.Zones.{HasZone, IsCopy, IsCopyOf, IsHeld, IsHeldNamed, IsHeldZone, IsKept, IsNamed, IsRead, IsShown, IsTaken, IsZone, IsZoneOf, Names, Reads, Shows, is_file}
+use Rattle.gix_date_c.specs.Zones.{HasZone, IsCopy, IsCopyOf, IsHeld, IsHeldNamed, IsHeldZone, IsKept, IsNamed, IsRead, IsShown, IsTaken}
+use Rattle.gix_date_c.specs.Zones.{IsZone, IsZoneOf, Names, Reads, Shows, is_file}
 use Rattle.gix_date_c.specs.Laws.{AreCopiesNamed, HasMomentsOf, HasPlacesOf}
 use Rattle.gix_date_c.specs.Values.Statuses.{number_of}
 use Rattle.gix_date_c.specs.declared.values.status.Status.{Status}
@@ -31,12 +32,14 @@ held-named false text offset (Rule rule) is (Ok zone) at = subst (λ (zone : Tim
 held-named false text offset (Rows read) is (Ok zone) at = absurd is
 held-named file text offset held is (Err status) at = absurd at
 
-read-named : (text : List ℕ) (offset : ℤ) (held : Held) → IsRead text (Ok held) → (z : Result TimeZone Status) → IsZoneOf offset (Some held) z
+read-named : (text : List ℕ) (offset : ℤ) (held : Held) → IsRead text (Ok held) → (z : Result TimeZone Status)
+    → IsZoneOf offset (Some held) z
     → IsHeldNamed (is_file text) text z
 read-named text offset held (inl is) z at = held-named (is_file text) text offset held is z at
 read-named text offset held (inr e) z at = absurd (subst (λ (r : Result Held Status). MatchResult r (λ _. Unit {0}) (λ _. ⊥)) e tt)
 
-named : (said : Option ℤ) (text : List ℕ) (zone : CZone) (kept : TakenZone) → IsTaken zone kept → IsKept said text (Ok kept) → (z : Result TimeZone Status)
+named : (said : Option ℤ) (text : List ℕ) (zone : CZone) (kept : TakenZone) → IsTaken zone kept → IsKept said text (Ok kept)
+    → (z : Result TimeZone Status)
     → IsZone zone z → IsNamed said text z
 named (Some offset) text zone kept is k z at =
     let none : zone.handle.held ≡ None = sym is.1 ∙ ap (option_map (λ held. held.value)) k.1 in
@@ -55,10 +58,12 @@ unfolding Reads
 not_read text old new refusal status k same is = inr (refusal, k, same, is)
 
 -- what C shows of such a zone means the same
-shown-named : (text : List ℕ) (zone : CZone) (shown : ShownZone) → Names text zone → Shows zone shown → (z : Result TimeZone Status) → IsShown shown z
+shown-named : (text : List ℕ) (zone : CZone) (shown : ShownZone) → Names text zone → Shows zone shown → (z : Result TimeZone Status)
+    → IsShown shown z
     → IsNamed (zone_offset text) text z
 shown-named text zone shown names same z at =
-    names z (subst (λ (held : Option Held). IsZoneOf zone.offset held z) same.1 (subst (λ (o : ℤ). IsZoneOf o shown.handle.held z) same.0 at))
+    names z
+    (subst (λ (held : Option Held). IsZoneOf zone.offset held z) same.1 (subst (λ (o : ℤ). IsZoneOf o shown.handle.held z) same.0 at))
 
 pub moments : (text : List ℕ) (zone : CZone) (shown : ShownZone) → HasMomentsOf text zone shown
 moments text zone shown instant now names same at = (at.0, shown-named text zone shown names same at.0 at.1, at.2)
@@ -72,7 +77,8 @@ copied-held (Rows held) (Rows copy) z is at = (at.0, at.1 ∙ is, at.2)
 copied-held (Rule held) (Rows copy) z is at = absurd is
 copied-held (Rows held) (Rule copy) z is at = absurd is
 
-copied-zone : (offset : ℤ) (from copy : Option Held) (z : Result TimeZone Status) → IsCopyOf from copy → IsZoneOf offset copy z → IsZoneOf offset from z
+copied-zone : (offset : ℤ) (from copy : Option Held) (z : Result TimeZone Status) → IsCopyOf from copy → IsZoneOf offset copy z
+    → IsZoneOf offset from z
 copied-zone offset None None z is at = at
 copied-zone offset (Some held) (Some copy) (Ok z) is at = copied-held held copy z is at
 copied-zone offset (Some held) (Some copy) (Err status) is at = at
@@ -87,7 +93,8 @@ copies text zone shown old new names same (inl copied) z at =
 copies text zone shown old new names same (inr refused) z at = absurd cc
 
 -- the zone of a table that is lent
-pub lent_zone : (held : Held) (read : Arc Tzif Global) (lent : Bor Tzif) → held ≡ Rows read → lent.now ≡ read.value → IsHeldZone held (Table lent)
+pub lent_zone : (held : Held) (read : Arc Tzif Global) (lent : Bor Tzif) → held ≡ Rows read → lent.now ≡ read.value
+    → IsHeldZone held (Table lent)
 lent_zone held read lent is same = subst (λ (h : Held). IsHeldZone h (Table lent)) (sym is) (lent, same, refl)
 
 -- the zone of an offset, or none
@@ -114,12 +121,14 @@ held_found shown h = found shown.offset shown.handle.held h
     found offset (Some held) h = held-zone held
 
 -- where none is held, there is a zone if there is that of the offset
-pub offset_found : (shown : ShownZone) (zone : Result LentZone Status) → is_some shown.handle.held ≡ false → IsOffsetZone shown.offset (result_map_both plain_zone (λ status. status) zone)
+pub offset_found : (shown : ShownZone) (zone : Result LentZone Status) → is_some shown.handle.held ≡ false
+    → IsOffsetZone shown.offset (result_map_both plain_zone (λ status. status) zone)
     → is_ok zone ≡ true → HasZone shown
 unfolding HasZone
 offset_found shown zone h is ok = found shown.offset shown.handle.held zone h is ok
   where
-    found : (offset : ℤ) (held : Option Held) (zone : Result LentZone Status) → is_some held ≡ false → IsOffsetZone offset (result_map_both plain_zone (λ status. status) zone)
+    found : (offset : ℤ) (held : Option Held) (zone : Result LentZone Status) → is_some held ≡ false
+        → IsOffsetZone offset (result_map_both plain_zone (λ status. status) zone)
         → is_ok zone ≡ true → (z : TimeZone) × IsZoneOf offset held (Ok z)
     found offset None (Ok z) h is ok = (plain_zone z, is)
     found offset None (Err status) h is ok = absurd cc

@@ -1,5 +1,6 @@
 -- What is printed by a pattern, or is not, and what is printed without an owned text.
-use Rattle.std.proofs.Common.{◌≡◌, ◌∙◌, ◌≤◌, ◌<◌, ◌^◌, ℕ, List, length, Bool, true, false, Result, Ok, Err, IsUtf8, inl, inr, refl, sym, ap, subst, arith, string_bytes, None}
+use Rattle.std.proofs.Common.{◌≡◌, ◌∙◌, ◌≤◌, ◌<◌, ◌^◌, ℕ, List, length, Bool, true, false, Result, Ok, Err, IsUtf8, inl, inr, refl, sym, ap}
+use Rattle.std.proofs.Common.{subst, arith, string_bytes, None}
 use Rattle.std.specs.Prelude.{String}
 use Rattle.std.specs.Global.{Global}
 use Rattle.std.proofs.lemmas.Str.{is_utf8-from_IsUtf8}
@@ -53,25 +54,29 @@ pub text-by_pattern : (IsResult : Result (String Global) Error → Type 0) (is_t
 text-by_pattern IsResult is_text answer is printed = subst (λ b. IsPatternPrinted IsResult b answer) (sym is) printed
 
 -- the text of a time in a format is what printing gives
-in-format : (t : Time) (format : Format) (text : List ℕ) (s : String Global) → IsTextOf t format text → string_bytes s ≡ text → Prints t format (Ok s)
+in-format : (t : Time) (format : Format) (text : List ℕ) (s : String Global) → IsTextOf t format text → string_bytes s ≡ text
+    → Prints t format (Ok s)
 in-format t Unix text s is bytes = bytes ∙ is
 in-format t Raw text s is bytes = subst (IsTextOf t Raw) (sym bytes) is
 in-format t (Custom format) text s is bytes = subst (IsTextOf t (Custom format)) (sym bytes) is
 
 -- also where seconds are wanted if there is none
-pub text-prints : (or_unix : Bool) (t : Time) (format : Format) (text : List ℕ) (s : String Global) → IsTextOf t format text → string_bytes s ≡ text
+pub text-prints : (or_unix : Bool) (t : Time) (format : Format) (text : List ℕ) (s : String Global) → IsTextOf t format text
+    → string_bytes s ≡ text
     → PrintsSo or_unix t format (Ok s)
 text-prints false t format text s is bytes = in-format t format text s is bytes
 text-prints true t format text s is bytes = inl (in-format t format text s is bytes)
 
 -- so is the text by a pattern
-pub pattern-prints : (or_unix : Bool) (t : Time) (pattern text : List ℕ) (s : String Global) → IsPatternText t pattern text → string_bytes s ≡ text
+pub pattern-prints : (or_unix : Bool) (t : Time) (pattern text : List ℕ) (s : String Global) → IsPatternText t pattern text
+    → string_bytes s ≡ text
     → PrintsPatternSo or_unix t pattern (Ok s)
 pattern-prints false t pattern text s is bytes = subst (IsPatternText t pattern) (sym bytes) is
 pattern-prints true t pattern text s is bytes = inl (subst (IsPatternText t pattern) (sym bytes) is)
 
 -- a number without a format
-pub no_format : (Prints : Format → Result (String Global) Error → Type 0) (number : ℕ) (old bytes : List ℕ) (len status : ℕ) → None ≡ format_numbered number
+pub no_format : (Prints : Format → Result (String Global) Error → Type 0) (number : ℕ) (old bytes : List ℕ) (len status : ℕ)
+    → None ≡ format_numbered number
     → outcome bytes len status ≡ outcome_of (Err NoSuchOption) old → Puts (IsFormatted Prints number) old bytes len status
 no_format Prints number old bytes len status none is = (Err NoSuchOption, inr (sym none, refl), is)
 

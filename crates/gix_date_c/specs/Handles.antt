@@ -15,10 +15,12 @@ abbrev pub held_owns : Global → Ptr → Option Held → Fml
 held_owns alloc at None = ftrue
 held_owns alloc at (Some held) = box_owns (ghosts.dealloc_token alloc) the_row at held
 
--- the zone that is held lies at this pointer, and stays as it is for a lifetime, of which this is a part; if none is held the pointer shows nothing
+-- the zone that is held lies at this pointer, and stays as it is for a lifetime, of which this is a part; if none is held the pointer shows
+-- nothing
 abbrev pub held_shown : Lft → Ptr → Option Held → Fml
 held_shown κ at None = ftrue
-held_shown κ at (Some held) = fsep (fex Share (λ q. flft κ q)) (fsep (in_block at ftrue) (hidden_shr the_row κ held (block_of at) (count_of at)))
+held_shown κ at (Some held) =
+    fsep (fex Share (λ q. flft κ q)) (fsep (in_block at ftrue) (hidden_shr the_row κ held (block_of at) (count_of at)))
 
 -- how C tells whether something is held
 abbrev pub kind_of : Option Held → ℕ

@@ -12,7 +12,7 @@ use Rattle.gix_signature.specs.declared.fsck.FsckFault.{FsckFault}
 use Rattle.gix_signature.specs.declared.fsck.FsckId.{FsckId}
 use Rattle.gix_signature.specs.declared.fsck.FsckId.TheVariants as messages
 use Rattle.gix_signature.specs.declared.ident.IdentPlaces.{IdentPlaces}
-use Rattle.gix_signature.specs.declared.ident.time.GitTime.{GitTime}
+use Rattle.gix_signature.specs.declared.ident.GitTime.{GitTime}
 use Rattle.gix_date_c.specs.declared.ident.CGitTime.{CGitTime}
 use Rattle.gix_date_c.specs.declared.ident.CIdent.{CIdent}
 use Rattle.gix_date_c.specs.declared.signature.CSpan.{CSpan}

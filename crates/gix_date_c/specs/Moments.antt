@@ -1,5 +1,6 @@
 -- Moments: instants in zones.
-use Rattle.std.specs.Prelude.{◌≡◌, ℕ, if◌then◌else◌, Bool, true, false, ◌&&◌, List, Option, Some, None, Result, Ok, Err, ℤ, pos, neg_ℤ, ◌+ℤ◌, MatchResult}
+use Rattle.std.specs.Prelude.{◌≡◌, ℕ, if◌then◌else◌, Bool, true, false, ◌&&◌, List, Option, Some, None, Result, Ok, Err, ℤ, pos, neg_ℤ}
+use Rattle.std.specs.Prelude.{◌+ℤ◌, MatchResult}
 use Rattle.std.specs.Int.Signed.{le_z}
 use Rattle.std.specs.Result.{result_map_both}
 use Rattle.std.specs.Str.{is_utf8}
@@ -11,8 +12,8 @@ use Rattle.jiff.specs.declared.zoned.Zoned.{Zoned}
 use Rattle.jiff_tz.specs.declared.tzif.Tzif.{Tzif}
 use Rattle.gix_date.specs.Fields.Zoned.{first_second, is_instant}
 use Rattle.git_date.specs.Exact.Places as places
-use Rattle.git_date.specs.declared.zones.texts.TableError.{TableError}
-use Rattle.git_date.specs.declared.zones.texts.TableError.TheVariants as tables
+use Rattle.git_date.specs.declared.zone_texts.TableError.{TableError}
+use Rattle.git_date.specs.declared.zone_texts.TableError.TheVariants as tables
 use Rattle.gix_date_c.specs.declared.moment.CInstant.{CInstant}
 use Rattle.gix_date_c.specs.declared.values.status.Status.{Status}
 use Rattle.gix_date_c.specs.declared.values.status.Status.TheVariants as statuses

@@ -46,8 +46,8 @@ pub extern "C" fn gix_date_parse_carefully_at(
     time: &mut CTime,
     place: &mut usize,
 ) -> u32
-    ensures { Spec.StoresRead (Spec.IsReadIn (λ now. Spec.IsParsedCarefully options.now (Some now)) (Spec.IsShown zone.now) now.now text.now)
-        (time.old, place.old) (time.new, place.new) result }
+    ensures { Spec.StoresRead (Spec.IsReadIn (λ now. Spec.IsParsedCarefully options.now (Some now))
+        (Spec.IsShown zone.now) now.now text.now) (time.old, place.old) (time.new, place.new) result }
 {
     let answer = parse_at(text, options, zone.moment(now));
     store_read(answer, time, place)

@@ -4,11 +4,10 @@ ghost use Rattle.gix_date_c.specs as Spec;
 
 mod ages;
 pub(crate) mod dates;
-mod formats;
 mod lines;
 mod offsets;
 mod own;
-mod show;
+pub(crate) mod show;
 
 use crate::values::refusal::Refusal;
 use crate::values::status::Status;

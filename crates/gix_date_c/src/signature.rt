@@ -204,7 +204,8 @@ fn part_len(part: &[u8], is_whole: bool) -> usize
 /// Puts the bytes of a part that stand in a line into a buffer from this place on, and answers the place after them.
 fn put_part(out: &mut [u8], at: usize, part: &[u8], is_whole: bool) -> usize
     requires room { at + length (Spec.part_put is_whole part.now) ≤ length out.old }
-    ensures bytes { out.new ≡ take at out.old ++ (Spec.part_put is_whole part.now ++ drop (at + length (Spec.part_put is_whole part.now)) out.old) }
+    ensures bytes { out.new
+        ≡ take at out.old ++ (Spec.part_put is_whole part.now ++ drop (at + length (Spec.part_put is_whole part.now)) out.old) }
     ensures after { result ≡ at + length (Spec.part_put is_whole part.now) }
 {
     if is_whole {

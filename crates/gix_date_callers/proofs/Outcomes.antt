@@ -30,11 +30,14 @@ raw-result rule t text r law h e =
 
 -- that by the rule of each of two calls
 pub raw_result : (t : Time) (text : List ℕ) (uncopied : Result Time ParseError) (r : Result Time Error) → ComesFirst is_quarter_offset text
-    → ParseNoAllocOutcome (first_family_by is_quarter_offset text) None uncopied → WithCopy text uncopied r → raw_time_by is_quarter_offset text ≡ Some t → r ≡ Ok t
+    → ParseNoAllocOutcome (first_family_by is_quarter_offset text) None uncopied → WithCopy text uncopied r
+    → raw_time_by is_quarter_offset text ≡ Some t → r ≡ Ok t
 raw_result t text uncopied r law h copied e = raw-result is_quarter_offset t text r law (uncopied, h, copied) e
 
-pub minute_result : (t : Time) (text : List ℕ) (uncopied : Result Time ParseError) (r : Result Time Error) → ComesFirst is_minute_offset text
-    → ParseNoAllocOutcome (first_family_by is_minute_offset text) None uncopied → WithCopy text uncopied r → raw_time_by is_minute_offset text ≡ Some t → r ≡ Ok t
+pub minute_result : (t : Time) (text : List ℕ) (uncopied : Result Time ParseError) (r : Result Time Error)
+    → ComesFirst is_minute_offset text
+    → ParseNoAllocOutcome (first_family_by is_minute_offset text) None uncopied → WithCopy text uncopied r
+    → raw_time_by is_minute_offset text ≡ Some t → r ≡ Ok t
 minute_result t text uncopied r law h copied e = raw-result is_minute_offset t text r law (uncopied, h, copied) e
 
 -- the moment is the one that was handed in
@@ -43,8 +46,10 @@ pub resolved_at : (z : Zoned) (text : List ℕ) (r : Result Time Error) → Pars
 resolved_at z text r h = (z, h)
 
 -- the clock's instant, and the zone if one was found
-pub made_at : (t : Time) (instant : ℤ) (zone : Option TimeZone) → t ≡ unwrap_or (option_map (λ z. time_in (plain_zone z) instant) zone) (time_in_utc instant)
-    → (instant : ℤ) × (zone : Option TimeZone) × (t ≡ unwrap_or (option_map (λ z. time_in (plain_zone z) instant) zone) (time_in_utc instant))
+pub made_at : (t : Time) (instant : ℤ) (zone : Option TimeZone)
+    → t ≡ unwrap_or (option_map (λ z. time_in (plain_zone z) instant) zone) (time_in_utc instant)
+    → (instant : ℤ) × (zone : Option TimeZone)
+    × (t ≡ unwrap_or (option_map (λ z. time_in (plain_zone z) instant) zone) (time_in_utc instant))
 made_at t instant zone e = (instant, zone, e)
 
 -- the guess is the one that `approxidate` gave of the text's bytes
@@ -52,6 +57,7 @@ pub guessed : (now : Zoned) (bytes text : List ℕ) (date : Approximate) → byt
     → (given : Approximate) × ApproximateOutcome now text (Ok given) × (date.time ≡ given.time)
 guessed now bytes text date e h = (date, subst (λ (text : List ℕ). ApproximateOutcome now text (Ok date)) e h, refl)
 
-pub understood : (now : Zoned) (bytes text : List ℕ) (date : Approximate) → bytes ≡ text → ApproximateOutcome now bytes (Ok date) → date.understood ≡ true
+pub understood : (now : Zoned) (bytes text : List ℕ) (date : Approximate) → bytes ≡ text → ApproximateOutcome now bytes (Ok date)
+    → date.understood ≡ true
     → (given : Approximate) × ApproximateOutcome now text (Ok given) × (given.understood ≡ true) × (date.time ≡ given.time)
 understood now bytes text date e h known = (date, subst (λ (text : List ℕ). ApproximateOutcome now text (Ok date)) e h, known, refl)

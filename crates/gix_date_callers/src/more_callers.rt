@@ -1,5 +1,6 @@
 //! More callers of `gix_date`: docs/CALLING.md says what each is for.
-ghost use Rattle.std.specs.Prelude.{◌≡◌, ◌≢◌, ◌↔◌, ◌⊎◌, ◌<◌, ◌-ℤ◌, pos, true, false, IsTrue, IsSome, Some, None, Err, Ok, IfSome, IfNone, IsOk, IsOkAnd, IsSomeAnd, IfOk, MatchResult, option_map, replicate, string_bytes, unwrap_or, ℤ, Option};
+ghost use Rattle.std.specs.Prelude.{◌≡◌, ◌≢◌, ◌↔◌, ◌⊎◌, ◌<◌, ◌-ℤ◌, pos, true, false, IsTrue, IsSome, Some, None, Err, Ok, IfSome, IfNone};
+ghost use Rattle.std.specs.Prelude.{IsOk, IsOkAnd, IsSomeAnd, IfOk, MatchResult, option_map, replicate, string_bytes, unwrap_or, ℤ, Option};
 ghost use Rattle.std.specs.Str.{IsUtf8};
 ghost use Rattle.gix_date.specs.Families.Answer.{Relative};
 ghost use Rattle.gix_date.specs.declared.error.Error.TheVariants.{Memory, OffsetTooWide, Range};
@@ -232,7 +233,8 @@ pub fn day_before(alloc: Global, time: Time) -> Result<Time, Error>
 /// What `yesterday` names at a moment in any zone: the time 86400 seconds before, or `Range` where `jiff` has no such instant.
 pub fn day_before_in_zone(alloc: Global, moment: Zoned<'_>) -> Result<Time, Error>
     ensures { MatchResult result
-        (λ t. t ≡ GixDate.time_in (GixDate.zone_of moment.entry) (zoned_nanos moment.entry -ℤ nanos_of_seconds (pos 86_400))) (λ e. e ≡ Range) }
+        (λ t. t ≡ GixDate.time_in (GixDate.zone_of moment.entry) (zoned_nanos moment.entry -ℤ nanos_of_seconds (pos 86_400)))
+        (λ e. e ≡ Range) }
 {
     gix_date_laws::named_instants("yesterday", &moment);
     parse(alloc, "yesterday", Some(moment))

@@ -1,5 +1,6 @@
 -- Relative dates: how their texts are written, and the instants that they name.
-use Rattle.std.proofs.Common.{rules, ◌≡◌, ◌∙◌, ◌↔◌, ◌+◌, ℕ, ℤ, pos, ◌-ℤ◌, Bool, true, false, cond, List, [], ◌∷◌, ◌++◌, length, refl, ap, sym, arith, length-append, Option, Some, None, inl, inr, ◌⊎◌, IsUtf8}
+use Rattle.std.proofs.Common.{rules, ◌≡◌, ◌∙◌, ◌↔◌, ◌+◌, ℕ, ℤ, pos, ◌-ℤ◌, Bool, true, false, cond, List, [], ◌∷◌, ◌++◌, length, refl, ap}
+use Rattle.std.proofs.Common.{sym, arith, length-append, Option, Some, None, inl, inr, ◌⊎◌, IsUtf8}
 use Rattle.std.proofs.Math.Numerals.{one-add}
 use Rattle.std.proofs.lemmas.List.{reverse-append, reverse-reverse}
 use Rattle.std.specs.List.{prefix_len}
@@ -10,7 +11,8 @@ use Rattle.std.specs.Str.{trim}
 use Rattle.jiff.specs.Words.{zoned_nanos, nanos_of_seconds}
 use Rattle.jiff.specs.declared.zoned.Zoned.{Zoned}
 use Rattle.jiff_core.proofs.SignedLemmas.{signed_arith}
-use Rattle.gix_date.specs.Relative.Dates.{RelativeDate, MinusPairs, MinusSeconds, AreNamedOnce, date_names, named_date, pairs_date, relative_date}
+use Rattle.gix_date.specs.Relative.Dates.{RelativeDate, MinusPairs, MinusSeconds, AreNamedOnce, date_names, named_date, pairs_date}
+use Rattle.gix_date.specs.Relative.Dates.{relative_date}
 use Rattle.gix_date.specs.Relative.Pairs.{HasPair, IsRelativeText, is_even}
 use Rattle.gix_date.specs.Relative.Roles.{pairs, is_count_word, next_is_free}
 use Rattle.gix_date.specs.Relative.Words.{relative_words}
@@ -42,7 +44,8 @@ unfolding relative_date named_date pairs_date
 is-text text u date (inl h) = ap (λ (r : Option RelativeDate). option_or r (pairs_date text)) h
 is-text text u date (inr h) =
     let words = relative_words text in
-    let none : named_in date_names (trim text) ≡ None = none-unless (named_in date_names (trim text)) (λ d e. one-no-pair words (trim text) (named-alone text u d e) h.0.0) in
+    let none : named_in date_names (trim text) ≡ None =
+    none-unless (named_in date_names (trim text)) (λ d e. one-no-pair words (trim text) (named-alone text u d e) h.0.0) in
     ap (λ (r : Option RelativeDate). option_or r (pairs_date text)) none
     ∙ ap (λ b. cond b (Some (MinusPairs (pairs words))) None) ((meant words).1 h.0) ∙ ap (λ (d : RelativeDate). Some d) (sym h.1)
 
@@ -81,11 +84,13 @@ yesterday-date : named_in date_names (codes "yesterday") ≡ Some (MinusSeconds 
 yesterday-date = refl
 
 -- a text that is a word says what the word says
-word-date : (word text : List ℕ) (date : RelativeDate) → named_in date_names word ≡ Some date → IsWord word text → relative_date text ≡ Some date
+word-date : (word text : List ℕ) (date : RelativeDate) → named_in date_names word ≡ Some date → IsWord word text
+    → relative_date text ≡ Some date
 unfolding relative_date named_date
 word-date word text date e is = grind (arith, like-named, lower-same)
 
-names-instant : (word text : List ℕ) (seconds : ℤ) (z : Zoned) (due : ℤ) → named_in date_names word ≡ Some (MinusSeconds seconds) → due ≡ zoned_nanos z -ℤ nanos_of_seconds seconds
+names-instant : (word text : List ℕ) (seconds : ℤ) (z : Zoned) (due : ℤ) → named_in date_names word ≡ Some (MinusSeconds seconds)
+    → due ≡ zoned_nanos z -ℤ nanos_of_seconds seconds
     → IsWord word text → NamesInstant text z due
 names-instant word text seconds z due e at is = (
   MinusSeconds seconds,
@@ -102,7 +107,8 @@ now_names text z = names-instant (codes "now") text (pos 0) z (zoned_nanos z) no
 pub today_names : (text : List ℕ) (z : Zoned) → IsWord (codes "today") text → NamesInstant text z (zoned_nanos z)
 today_names text z = names-instant (codes "today") text (pos 0) z (zoned_nanos z) today-date (less-none (zoned_nanos z))
 
-pub yesterday_names : (text : List ℕ) (z : Zoned) → IsWord (codes "yesterday") text → NamesInstant text z (zoned_nanos z -ℤ nanos_of_seconds (pos 86_400))
+pub yesterday_names : (text : List ℕ) (z : Zoned) → IsWord (codes "yesterday") text
+    → NamesInstant text z (zoned_nanos z -ℤ nanos_of_seconds (pos 86_400))
 yesterday_names text z = search (rules, names-instant, yesterday-date)
 
 -- a relative date names one time at most

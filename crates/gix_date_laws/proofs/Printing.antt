@@ -26,11 +26,13 @@ use Rattle.gix_date.proofs.Printing.ReadBack.{date-is, date-of, local-ymd, first
 use Rattle.gix_date.proofs.Printing.ShownPieces.{in-range}
 
 -- the midnight of the day that is shown
-its-midnight : (z : PlainZoned) (t : Time) → Shows z t → ShowsFourDigitFields z → civil_seconds (local_time z).date midnight (pos 0) ≡ midnight_of t
+its-midnight : (z : PlainZoned) (t : Time) → Shows z t → ShowsFourDigitFields z
+    → civil_seconds (local_time z).date midnight (pos 0) ≡ midnight_of t
 its-midnight z t shows o =
     let date = z.datetime.date in
     let year : date.year ≡ pos (local_time z).date.year = (local-ymd z o).0 in
-    let day : days_from_civil (pos (local_time z).date.year) date.month date.day ≡ epoch_day date = ap (λ (y : ℤ). days_from_civil y date.month date.day) (sym year) in
+    let day : days_from_civil (pos (local_time z).date.year) date.month date.day ≡ epoch_day date =
+    ap (λ (y : ℤ). days_from_civil y date.month date.day) (sym year) in
     let local = local-is z t shows in
     let same : epoch_day date ≡ local_day t = omega (arith, signed_arith, local) in
     omega (arith, signed_arith, day, same)
@@ -40,7 +42,8 @@ of-midnight : (d : LocalDate) (n : ℤ) → is_date d ≡ true → civil_seconds
 unfolding civil_instant
 of-midnight d n real e = grind (arith)
 
-pub short_back : (rule : OffsetRule) (t : Time) → IsConvertible t → HasFourDigitFields t → first_family_by rule (short_text (clock_of t)) ≡ Some (day_read_back t)
+pub short_back : (rule : OffsetRule) (t : Time) → IsConvertible t → HasFourDigitFields t
+    → first_family_by rule (short_text (clock_of t)) ≡ Some (day_read_back t)
 short_back rule t converts four_digits =
     let found = shown-by t converts in
     let z = found.0 in
@@ -52,7 +55,8 @@ short_back rule t converts four_digits =
     let real : is_date l.date ≡ true = date_from l.date (date-of z o) in
     let answer = day_read_back t in
     let comes : real_day_answer l ≡ Some answer =
-    ap (λ b. cond b (Some (day_answer l.date)) None) real ∙ ap (λ (a : FamilyAnswer). Some a) (of-midnight l.date (midnight_of t) real (its-midnight z t shows o)) in
+    ap (λ b. cond b (Some (day_answer l.date)) None) real
+    ∙ ap (λ (a : FamilyAnswer). Some a) (of-midnight l.date (midnight_of t) real (its-midnight z t shows o)) in
     let held = (dates_spelled.short text answer).1 (record {
       time = l;
       are = record { front = date_text l.date; rest = []; whole = refl; is = date-is l.date range.high range.month range.day; more = refl };
@@ -62,7 +66,8 @@ short_back rule t converts four_digits =
 
 -- the header text of the least time
 pub record LeastText : Type 0 where
-  pub is_longest : IfSome (header_text (record { seconds = neg_ℤ (pos 9_223_372_036_854_775_808); offset = neg_ℤ (pos 359_999) })) (λ text. length text ≡ max_text_len)
+  pub is_longest : IfSome (header_text (record { seconds = neg_ℤ (pos 9_223_372_036_854_775_808); offset = neg_ℤ (pos 359_999) }))
+      (λ text. length text ≡ max_text_len)
 
 pub least_text : LeastText
 unfolding digits header_text

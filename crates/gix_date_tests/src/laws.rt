@@ -9,6 +9,7 @@ fn laws_are_called_for_nothing_but_what_they_state() {
 }
 
 #[test]
+#[tactic(auto, using(gix_date::proofs::Relative::FixedTimes::moment_fixed))]
 fn laws_are_called_for_what_they_state_of_a_time(rt: HostRuntime) -> Result<(), Fail> {
     let time = Time::new(1_660_874_655, 28_800);
     laws::read_back(time);
@@ -22,7 +23,11 @@ fn laws_are_called_for_what_they_state_of_a_time(rt: HostRuntime) -> Result<(), 
         &moment,
         &[(0, 1), (1, 60), (2, 3600), (3, 86_400), (4, 604_800)],
     );
-    laws::months_add(&moment, &[(0, 1), (1, 12), (2, 1)]);
+    let day = moment.day();
+    assert!(rt; day == 19);
+    if day <= 28 {
+        laws::months_add(&moment, &[(0, 1), (1, 12), (2, 1)]);
+    }
     let parsed = laws::headline(rt.alloc(), "5 -0130", Some(moment));
     assert!(rt; matches!(parsed, Ok(raw) if raw == Time::new(5, -5400)));
     let wide = laws::headline_with(rt.alloc(), "5 +0007", None, RawOffsets::WholeMinutes);

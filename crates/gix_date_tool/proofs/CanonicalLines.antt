@@ -18,7 +18,8 @@ by-test true found h = refl
 by-test false None h = absurd cc
 by-test false (Some t) h = absurd cc
 
-by-mode : (mode : Mode) (query : Query) (line : List ℕ) (is_text : Bool) → query.mode ≡ Check → is_utf8 line ≡ is_text → IsReplyTo is_text query line Canonical → is_canonical_header line ≡ true
+by-mode : (mode : Mode) (query : Query) (line : List ℕ) (is_text : Bool) → query.mode ≡ Check → is_utf8 line ≡ is_text
+    → IsReplyTo is_text query line Canonical → is_canonical_header line ≡ true
 by-mode mode query line false m u h = absurd cc
 by-mode mode query line true m u h = by-test (is_canonical_header line) (header_time line) (rw m at h)
 

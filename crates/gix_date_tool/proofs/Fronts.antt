@@ -14,7 +14,7 @@ use Rattle.streams.specs.Outbox.{Puts, PutsProperPrefix, output}
 use Rattle.streams.specs.Serving.{Answer, Front, Service, service}
 use Rattle.streams.specs.Usual.{BeginsWithHeader, BeginsWithUnknown}
 use Rattle.streams.specs.declared.error.ToolError.TheVariants as errors
-use Rattle.streams.specs.declared.outbox.Outbox.{Outbox}
+use Rattle.streams.specs.declared.program.Outbox.{Outbox}
 use Rattle.gix_date_tool.specs.declared.program.arguments.Mode.TheVariants.{Check}
 use Rattle.gix_date_tool.specs.declared.runs.replies.Query.{Query}
 use Rattle.gix_date_tool.specs.declared.runs.replies.Reply.TheVariants.{Canonical}
@@ -28,9 +28,11 @@ use Rattle.gix_date_tool.proofs.Serving.{Replied-one}
 unknown-ascii : IsAscii (codes " -0000")
 unknown-ascii =
     IsAscii-cons 32 (codes "-0000") (omega arith) (IsAscii-cons 45 (codes "0000") (omega arith) (IsAscii-cons 48 (codes "000") (omega arith)
-    (IsAscii-cons 48 (codes "00") (omega arith) (IsAscii-cons 48 (codes "0") (omega arith) (IsAscii-cons 48 [] (omega arith) IsAscii-nil)))))
+    (IsAscii-cons 48 (codes "00") (omega arith)
+    (IsAscii-cons 48 (codes "0") (omega arith) (IsAscii-cons 48 [] (omega arith) IsAscii-nil)))))
 
-unknown-lines : (query : Query) (ds : List ℕ) → query.mode ≡ Check → are_usual_seconds ds ≡ true → IsReply query (ds ++ codes " -0000") (unknown_reply ds)
+unknown-lines : (query : Query) (ds : List ℕ) → query.mode ≡ Check → are_usual_seconds ds ≡ true
+    → IsReply query (ds ++ codes " -0000") (unknown_reply ds)
 unfolding IsReply
 unknown-lines query ds m h =
     let line = ds ++ codes " -0000" in
@@ -52,22 +54,30 @@ abbrev Replies : Replying → Outbox → StreamState → StreamState → StreamS
 Replies old outbox x y m n line answer =
     RepliesTo (service old x m) (service (record { query = old.query; outbox = outbox }) y n) (line ∷ []) answer
 
-canonical-replies : (old : Replying) (outbox : Outbox) (x y m n : StreamState) (bytes after : List ℕ) (answer : Answer) → old.query.mode ≡ Check
+canonical-replies : (old : Replying) (outbox : Outbox) (x y m n : StreamState) (bytes after : List ℕ) (answer : Answer)
+    → old.query.mode ≡ Check
     → (h : BeginsWithHeader bytes after) → SendsReplies (output old.outbox x) (output outbox y) (codes "canonical\n") answer
     → (front : Front bytes after) × Replies old outbox x y m n front.line answer
 canonical-replies old outbox x y m n bytes after answer mode h sent = (
   record { line = h.line; whole = h.whole; is_line = h.is_line; is_short = omega (arith, h.is_short) },
-  (refl, Replied-one {Is = λ text. SendsReplies (output old.outbox x) (output outbox y) text answer} old.query h.line Canonical ((canonical-line h.line old.query mode).1 h.is_canonical) sent),
+  (
+    refl,
+    Replied-one {Is = λ text. SendsReplies (output old.outbox x) (output outbox y) text answer} old.query h.line Canonical
+        ((canonical-line h.line old.query mode).1 h.is_canonical) sent,
+  ),
 )
 
-unknown-replies : (old : Replying) (outbox : Outbox) (x y m n : StreamState) (bytes seconds after : List ℕ) (answer : Answer) → old.query.mode ≡ Check
-    → (h : BeginsWithUnknown bytes seconds after) → SendsReplies (output old.outbox x) (output outbox y) (codes "read " ++ (seconds ++ (codes " 0\n" ++ []))) answer
+unknown-replies : (old : Replying) (outbox : Outbox) (x y m n : StreamState) (bytes seconds after : List ℕ) (answer : Answer)
+    → old.query.mode ≡ Check
+    → (h : BeginsWithUnknown bytes seconds after)
+    → SendsReplies (output old.outbox x) (output outbox y) (codes "read " ++ (seconds ++ (codes " 0\n" ++ []))) answer
     → (front : Front bytes after) × Replies old outbox x y m n front.line answer
 unknown-replies old outbox x y m n bytes seconds after answer mode h sent = (
   record { line = seconds ++ codes " -0000"; whole = h.whole; is_line = h.is_line; is_short = omega (arith, h.is_short) },
   (
     refl,
-    Replied-one {Is = λ text. SendsReplies (output old.outbox x) (output outbox y) text answer} old.query (seconds ++ codes " -0000") (unknown_reply seconds)
+    Replied-one {Is = λ text. SendsReplies (output old.outbox x) (output outbox y) text answer} old.query (seconds ++ codes " -0000")
+        (unknown_reply seconds)
         (unknown-lines old.query seconds mode h.are_seconds)
         (subst (λ text. SendsReplies (output old.outbox x) (output outbox y) text answer) (unknown-text seconds h.are_seconds) sent),
   ),
@@ -77,13 +87,15 @@ pub unknown_front : (s : Service Replying) (bytes : List ℕ) → RepliesToFront
 unfolding RepliesToFront
 unknown_front s bytes = refl
 
-pub canonical_served : (old : Replying) (outbox : Outbox) (x y m n : StreamState) (bytes : List ℕ) (after : Bor (List ℕ)) → old.query.mode ≡ Check
+pub canonical_served : (old : Replying) (outbox : Outbox) (x y m n : StreamState) (bytes : List ℕ) (after : Bor (List ℕ))
+    → old.query.mode ≡ Check
     → BeginsWithHeader bytes after.now → Puts (output old.outbox x) (output outbox y) (codes "canonical\n")
     → RepliesToFront (service old x m) (service (record { query = old.query; outbox = outbox }) y n) bytes (Ok (Some after))
 unfolding RepliesToFront
 canonical_served old outbox x y m n bytes after mode h sent = canonical-replies old outbox x y m n bytes after.now (Ok tt) mode h sent
 
-pub canonical_unserved : (old : Replying) (outbox : Outbox) (x y m n : StreamState) (bytes after : List ℕ) (kind : ErrorKind) → old.query.mode ≡ Check
+pub canonical_unserved : (old : Replying) (outbox : Outbox) (x y m n : StreamState) (bytes after : List ℕ) (kind : ErrorKind)
+    → old.query.mode ≡ Check
     → BeginsWithHeader bytes after → PutsProperPrefix (output old.outbox x) (output outbox y) (codes "canonical\n") kind
     → RepliesToFront (service old x m) (service (record { query = old.query; outbox = outbox }) y n) bytes (Err (errors.Write kind))
 unfolding RepliesToFront
@@ -91,14 +103,19 @@ canonical_unserved old outbox x y m n bytes after kind mode h sent =
     let replies = canonical-replies old outbox x y m n bytes after (Err (errors.Write kind)) mode h sent in
     (after, replies.0, replies.1)
 
-pub unknown_served : (old : Replying) (outbox : Outbox) (x y m n : StreamState) (bytes seconds : List ℕ) (after : Bor (List ℕ)) → old.query.mode ≡ Check
-    → BeginsWithUnknown bytes seconds after.now → Puts (output old.outbox x) (output outbox y) (codes "read " ++ (seconds ++ (codes " 0\n" ++ [])))
+pub unknown_served : (old : Replying) (outbox : Outbox) (x y m n : StreamState) (bytes seconds : List ℕ) (after : Bor (List ℕ))
+    → old.query.mode ≡ Check
+    → BeginsWithUnknown bytes seconds after.now
+    → Puts (output old.outbox x) (output outbox y) (codes "read " ++ (seconds ++ (codes " 0\n" ++ [])))
     → RepliesToFront (service old x m) (service (record { query = old.query; outbox = outbox }) y n) bytes (Ok (Some after))
 unfolding RepliesToFront
-unknown_served old outbox x y m n bytes seconds after mode h sent = unknown-replies old outbox x y m n bytes seconds after.now (Ok tt) mode h sent
+unknown_served old outbox x y m n bytes seconds after mode h sent =
+    unknown-replies old outbox x y m n bytes seconds after.now (Ok tt) mode h sent
 
-pub unknown_unserved : (old : Replying) (outbox : Outbox) (x y m n : StreamState) (bytes seconds after : List ℕ) (kind : ErrorKind) → old.query.mode ≡ Check
-    → BeginsWithUnknown bytes seconds after → PutsProperPrefix (output old.outbox x) (output outbox y) (codes "read " ++ (seconds ++ (codes " 0\n" ++ []))) kind
+pub unknown_unserved : (old : Replying) (outbox : Outbox) (x y m n : StreamState) (bytes seconds after : List ℕ) (kind : ErrorKind)
+    → old.query.mode ≡ Check
+    → BeginsWithUnknown bytes seconds after
+    → PutsProperPrefix (output old.outbox x) (output outbox y) (codes "read " ++ (seconds ++ (codes " 0\n" ++ []))) kind
     → RepliesToFront (service old x m) (service (record { query = old.query; outbox = outbox }) y n) bytes (Err (errors.Write kind))
 unfolding RepliesToFront
 unknown_unserved old outbox x y m n bytes seconds after kind mode h sent =

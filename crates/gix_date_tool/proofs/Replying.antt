@@ -24,12 +24,14 @@ sign-once text a b (inl h) (inr g) = absurd (g.0 h.0 h.1)
 sign-once text a b (inr h) (inl g) = absurd (h.0 g.0 g.1)
 sign-once text a b (inr h) (inr g) = h.1 ∙ sym g.1
 
-text-once : (mode : Mode) (now : Option Zoned) (text : List ℕ) (a b : Reply) → IsTextReply mode now text a → IsTextReply mode now text b → a ≡ b
+text-once : (mode : Mode) (now : Option Zoned) (text : List ℕ) (a b : Reply) → IsTextReply mode now text a → IsTextReply mode now text b
+    → a ≡ b
 text-once Check now text a b h g = h ∙ sym g
 text-once Parse now text a b h g = h.2 ∙ ap parse_reply (one-outcome (first_family text) now h.0 g.0 h.1 g.1) ∙ sym g.2
 text-once Sign now text a b h g = sign-once text a b h g
 
-line-once : (is_text : Bool) (query : Query) (line : List ℕ) (a b : Reply) → IsReplyTo is_text query line a → IsReplyTo is_text query line b → a ≡ b
+line-once : (is_text : Bool) (query : Query) (line : List ℕ) (a b : Reply) → IsReplyTo is_text query line a → IsReplyTo is_text query line b
+    → a ≡ b
 line-once true query line a b h g = text-once query.mode query.now line a b h g
 line-once false query line a b h g = h ∙ sym g
 
@@ -38,6 +40,7 @@ unfolding IsReply RepliesAreUnique
 reply_once query line a b h g = line-once (is_utf8 line) query line a b h g
 
 -- the reply of a time
-pub parsed_is : (family : Option FamilyAnswer) (now : Option Zoned) (t : Time) → ParseNoAllocOutcome family now (Ok t) → IsOffsetSeconds t.offset
+pub parsed_is : (family : Option FamilyAnswer) (now : Option Zoned) (t : Time) → ParseNoAllocOutcome family now (Ok t)
+    → IsOffsetSeconds t.offset
     → IsParseReply family now (Parsed t)
 parsed_is family now t is fits = (Ok t, is, refl, fitting_has_text t fits)

@@ -1,5 +1,6 @@
 -- What was sent of the reply to a line.
-use Rattle.std.proofs.Common.{◌≡◌, ◌∙◌, ℕ, List, [], ◌∷◌, ◌++◌, Bool, true, false, cond, Option, Some, None, Result, Ok, Err, refl, sym, ap, subst, append_assoc, arith}
+use Rattle.std.proofs.Common.{◌≡◌, ◌∙◌, ℕ, List, [], ◌∷◌, ◌++◌, Bool, true, false, cond, Option, Some, None, Result, Ok, Err, refl, sym, ap}
+use Rattle.std.proofs.Common.{subst, append_assoc, arith}
 use Rattle.std.proofs.lemmas.Str.{is_utf8-from_IsUtf8}
 use Rattle.std.specs.Prelude.{IsUtf8, codes, nat_lt, unsigned_abs}
 use Rattle.std.specs.declared.io.ErrorKind.{ErrorKind}
@@ -23,7 +24,8 @@ abbrev Sent : Type 0
 Sent = Result (Unit {0}) ErrorKind
 
 -- the search for this alone stops short
-pub date_sent : (a b : Output) (reply : Reply) (r : Sent) → reply ≡ DateConversion → Sends a b (codes "error date-conversion\n") r → Sends a b (reply_line reply) r
+pub date_sent : (a b : Output) (reply : Reply) (r : Sent) → reply ≡ DateConversion → Sends a b (codes "error date-conversion\n") r
+    → Sends a b (reply_line reply) r
 date_sent a b reply r is h = subst (λ reply. Sends a b (reply_line reply) r) (sym is) h
 
 -- the text that a time has
@@ -35,14 +37,16 @@ held-text t text h = by (nat_lt (unsigned_abs t.offset) hundred_hours) h
     by true e = grind (arith)
     by false e = absurd cc
 
-pub time_sent : (a b : Output) (t : Time) (text : List ℕ) (r : Sent) → header_text t ≡ Some text → Sends a b (text ++ newline ∷ []) r → Sends a b (reply_line (Parsed t)) r
+pub time_sent : (a b : Output) (t : Time) (text : List ℕ) (r : Sent) → header_text t ≡ Some text → Sends a b (text ++ newline ∷ []) r
+    → Sends a b (reply_line (Parsed t)) r
 time_sent a b t text r is h = subst (λ text. Sends a b (text ++ newline ∷ []) r) (held-text t text is) h
 
 -- the pieces of a reading, one after the other
 abbrev pieces_of : List ℕ → List ℕ → List ℕ
 pieces_of seconds offset = codes "read " ++ (seconds ++ (space ∷ (offset ++ newline ∷ [])))
 
-pub reading_sent : (a b : Output) (t : Time) (seconds offset : List ℕ) (r : Sent) → seconds ≡ decimal_text t.seconds → offset ≡ decimal_text t.offset
+pub reading_sent : (a b : Output) (t : Time) (seconds offset : List ℕ) (r : Sent) → seconds ≡ decimal_text t.seconds
+    → offset ≡ decimal_text t.offset
     → Sends a b (pieces_of seconds offset) r → Sends a b (reply_line (Read t)) r
 reading_sent a b t seconds offset r s o h =
     subst (λ text. Sends a b text r)
@@ -58,26 +62,31 @@ text-reply query mode text line reply same in_mode is_text h =
     let asked_here = subst (λ m. IsTextReply m query.now line reply) (sym in_mode) here in
     subst (λ b. IsReplyTo b query line reply) (sym (is_utf8-from_IsUtf8 line is_text)) asked_here
 
-pub check_sent : (a b : Output) (query : Query) (text line : List ℕ) (reply : Reply) (r : Sent) → text ≡ line → query.mode ≡ Check → IsUtf8 line
+pub check_sent : (a b : Output) (query : Query) (text line : List ℕ) (reply : Reply) (r : Sent) → text ≡ line → query.mode ≡ Check
+    → IsUtf8 line
     → reply ≡ check_reply text → Sends a b (reply_line reply) r → SendsReply a b query line r
 unfolding SendsReply
 check_sent a b query text line reply r same mode is_text h sent =
     Replied-one {Is = λ text. Sends a b text r} query line reply (text-reply query Check text line reply same mode is_text h) sent
 
-pub parse_sent : (a b : Output) (query : Query) (text line : List ℕ) (reply : Reply) (r : Sent) → text ≡ line → query.mode ≡ Parse → IsUtf8 line
+pub parse_sent : (a b : Output) (query : Query) (text line : List ℕ) (reply : Reply) (r : Sent) → text ≡ line → query.mode ≡ Parse
+    → IsUtf8 line
     → IsParseReply (first_family text) query.now reply → Sends a b (reply_line reply) r → SendsReply a b query line r
 unfolding SendsReply
 parse_sent a b query text line reply r same mode is_text h sent =
     Replied-one {Is = λ text. Sends a b text r} query line reply (text-reply query Parse text line reply same mode is_text h) sent
 
-pub sign_sent : (a b : Output) (query : Query) (text line : List ℕ) (reply : Reply) (r : Sent) → text ≡ line → query.mode ≡ Sign → IsUtf8 line
+pub sign_sent : (a b : Output) (query : Query) (text line : List ℕ) (reply : Reply) (r : Sent) → text ≡ line → query.mode ≡ Sign
+    → IsUtf8 line
     → IsSignReply text reply → Sends a b (reply_line reply) r → SendsReply a b query line r
 unfolding SendsReply
 sign_sent a b query text line reply r same mode is_text h sent =
     Replied-one {Is = λ text. Sends a b text r} query line reply (text-reply query Sign text line reply same mode is_text h) sent
 
 -- the reply to a line that is not
-pub not_text_sent : (a b : Output) (query : Query) (line : List ℕ) (r : Sent) → (IsUtf8 line → ⊥) → Sends a b (reply_line NotText) r → SendsReply a b query line r
+pub not_text_sent : (a b : Output) (query : Query) (line : List ℕ) (r : Sent) → (IsUtf8 line → ⊥) → Sends a b (reply_line NotText) r
+    → SendsReply a b query line r
 unfolding SendsReply IsReply
 not_text_sent a b query line r h sent =
-    Replied-one {Is = λ text. Sends a b text r} query line NotText (subst (λ b. IsReplyTo b query line NotText) (sym (no_text line h)) refl) sent
+    Replied-one {Is = λ text. Sends a b text r} query line NotText (subst (λ b. IsReplyTo b query line NotText) (sym (no_text line h)) refl)
+    sent

@@ -33,16 +33,30 @@ unfolding IsSignReply
 canonical-of line u (inl h) =
     let same : line ≡ h.0 = ap line-in h.2 in
     let s : IsSigned line line = subst (IsSigned line) (sym same) h.1 in
-    record { is_text = u; parts = s.parts; cut = s.cut; canonical = comes_back_canonical s.parts.time (time-back line s (header_text s.time) refl) }
+    record {
+      is_text = u;
+      parts = s.parts;
+      cut = s.cut;
+      canonical =
+          comes_back_canonical s.parts.time (time-back line s (header_text s.time) refl);
+    }
 canonical-of line u (inr h) = let clash : Signed line ≡ NoSignature = h.1 in absurd cc
 
 signed-of : (line : List ℕ) → IsCanonicalLine line → IsSigned line line
 signed-of line c =
     let p = c.parts in
     let back : ComesBack p.time = canonical_back p.time (canonical_taken p.time c.canonical) in
-    record { parts = p; time = back.time; cut = c.cut; read = back.is_read; due = due-of line p back.time (Some p.time) c.cut back.is_written ∙ ap (λ (l : List ℕ). Ok l) (sym c.cut.whole) }
+    record {
+      parts = p;
+      time = back.time;
+      cut = c.cut;
+      read = back.is_read;
+      due =
+          due-of line p back.time (Some p.time) c.cut back.is_written ∙ ap (λ (l : List ℕ). Ok l) (sym c.cut.whole);
+    }
 
-by-text : (query : Query) (line : List ℕ) (is_text : Bool) → query.mode ≡ Sign → is_utf8 line ≡ is_text → IsReplyTo is_text query line (Signed line) → IsCanonicalLine line
+by-text : (query : Query) (line : List ℕ) (is_text : Bool) → query.mode ≡ Sign → is_utf8 line ≡ is_text
+    → IsReplyTo is_text query line (Signed line) → IsCanonicalLine line
 by-text query line false m u h = let clash : Signed line ≡ NotText = h in absurd cc
 by-text query line true m u h = canonical-of line u (rw m at h)
 

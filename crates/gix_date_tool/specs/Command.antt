@@ -9,7 +9,8 @@ use Rattle.gix_date_tool.specs.declared.program.arguments.Mode.{Mode}
 use Rattle.streams.specs.Moments.{moment_or_why}
 use Rattle.streams.specs.declared.program.NoMoment.{NoMoment}
 use Rattle.gix_date_tool.specs.declared.program.arguments.WrongWords.{WrongWords}
-use Rattle.gix_date_tool.specs.declared.program.arguments.WrongWords.TheVariants.{NoMode, UnknownMode, NowWithoutParse, AfterNow, NoMoment as NoMomentIn}
+use Rattle.gix_date_tool.specs.declared.program.arguments.WrongWords.TheVariants.{NoMode, UnknownMode, NowWithoutParse, AfterNow}
+use Rattle.gix_date_tool.specs.declared.program.arguments.WrongWords.TheVariants.{NoMoment as NoMomentIn}
 use Rattle.gix_date_tool.specs.declared.program.arguments.Request.{Request}
 use Rattle.gix_date_tool.specs.declared.program.arguments.Request.TheVariants.{Run, Usage}
 use Rattle.gix_date_tool.specs.declared.program.arguments.Mode.TheVariants.{Check, Parse, Sign}

@@ -9,7 +9,7 @@ use Rattle.gix_date_tool.specs.declared.program.arguments.WrongWords.TheVariants
 use Rattle.streams.specs.declared.error.ToolError.TheVariants as errors
 use Rattle.gix_date_tool.specs.declared.program.outcome.Outcome.{Outcome}
 use Rattle.gix_date_tool.specs.declared.program.outcome.Outcome.TheVariants.{Replied, Fault, Printed, Shown}
-use Rattle.gix_date_tool.specs.declared.program.help.TheConstants.{HELP, VERSION}
+use Rattle.gix_date_tool.specs.declared.help.TheConstants.{HELP, VERSION}
 use Rattle.streams.specs.Changes.{Change}
 use Rattle.streams.specs.Messages.{Reports}
 use Rattle.streams.specs.declared.program.Status.{Status}

@@ -19,7 +19,8 @@ use Rattle.gix_date_tool.specs.declared.program.arguments.Mode.{Mode}
 use Rattle.gix_date_tool.specs.declared.program.arguments.Mode.TheVariants.{Check, Parse, Sign}
 use Rattle.gix_date_tool.specs.declared.runs.replies.Query.{Query}
 use Rattle.gix_date_tool.specs.declared.runs.replies.Reply.{Reply}
-use Rattle.gix_date_tool.specs.declared.runs.replies.Reply.TheVariants.{NotText, NoTime, Canonical, Read, Parsed, UnknownFormat, DateConversion, MissingMoment, OutOfRange, Signed, NoSignature}
+use Rattle.gix_date_tool.specs.declared.runs.replies.Reply.TheVariants.{NotText, NoTime, Canonical, Read, Parsed, UnknownFormat}
+use Rattle.gix_date_tool.specs.declared.runs.replies.Reply.TheVariants.{DateConversion, MissingMoment, OutOfRange, Signed, NoSignature}
 use Rattle.streams.specs.Lines.{with_newline}
 use Rattle.gix_date_tool.specs.Signed.{IsSigned, IsUnsigned, IsCanonicalLine}
 

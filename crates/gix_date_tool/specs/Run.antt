@@ -41,7 +41,8 @@ IsEnd (Err stop) result = result ≡ Err (fault_of stop)
 unfoldable pub Runs : Mode → Option Time → Change → Change → Result ℕ ToolError → Type 0
 Runs mode now reading writing result =
     (moment : Option Zoned) × IsMomentOf now moment × (ended : Result ℕ Stop) × IsEnd ended result
-    × Ran (λ lines answer. Replied (λ text. IsReplyText writing text answer) (record { mode = mode; now = moment }) lines) (Unit {0}) MAX_LINES reading ended
+    × Ran (λ lines answer. Replied (λ text. IsReplyText writing text answer) (record { mode = mode; now = moment }) lines) (Unit {0})
+    MAX_LINES reading ended
 
 -- what is known of the sink of a server that replies, and what waits to be sent to it
 abbrev pub output_of : Service Replying → Output
@@ -60,7 +61,8 @@ SendsReply old new query line result = Replied (λ text. Sends old new text resu
 -- what replying to some lines comes to
 abbrev pub RepliesTo : Service Replying → Service Replying → List (List ℕ) → Answer → Type 0
 RepliesTo old new lines answer =
-    (new.server.query ≡ old.server.query) × Replied (λ text. SendsReplies (output_of old) (output_of new) text answer) old.server.query lines
+    (new.server.query ≡ old.server.query)
+    × Replied (λ text. SendsReplies (output_of old) (output_of new) text answer) old.server.query lines
 
 -- what replying to the first line of some bytes comes to
 unfoldable pub RepliesToFront : Service Replying → Service Replying → List ℕ → Result (Option (Bor (List ℕ))) ToolError → Type 0

@@ -10,7 +10,8 @@ use Rattle.streams.specs.Serving.{Answer, Joins, Stays}
 use Rattle.streams.specs.declared.error.ToolError.TheVariants as errors
 use Rattle.streams.proofs.Sending.{Puts-nil, PutsProperPrefix-then, Puts-then}
 
-AreReplies-append : (query : Query) (lines more : List (List ℕ)) (replies others : List Reply) → AreReplies query lines replies → AreReplies query more others
+AreReplies-append : (query : Query) (lines more : List (List ℕ)) (replies others : List Reply) → AreReplies query lines replies
+    → AreReplies query more others
     → AreReplies query (lines ++ more) (replies ++ others)
 AreReplies-append query [] more [] others h k = k
 AreReplies-append query [] more (reply ∷ replies) others h k = absurd h
@@ -18,7 +19,8 @@ AreReplies-append query (line ∷ lines) more [] others h k = absurd h
 AreReplies-append query (line ∷ lines) more (reply ∷ replies) others h k = (h.0, AreReplies-append query lines more replies others h.1 k)
 
 -- one text, and then what sending the next came to
-sends-then : {a b : Output} {x : List ℕ} (c : Output) (y : List ℕ) (answer : Answer) → Puts a b x → SendsReplies b c y answer → SendsReplies a c (x ++ y) answer
+sends-then : {a b : Output} {x : List ℕ} (c : Output) (y : List ℕ) (answer : Answer) → Puts a b x → SendsReplies b c y answer
+    → SendsReplies a c (x ++ y) answer
 sends-then c y (Ok u) h k = Puts-then h k
 sends-then c y (Err (errors.Write kind)) h k = PutsProperPrefix-then h k
 sends-then c y (Err (errors.Read kind)) h k = absurd k

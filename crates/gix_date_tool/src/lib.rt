@@ -2,6 +2,7 @@
 //! again.
 #![tactic(auto)]
 
+mod help;
 pub mod laws;
 mod program;
 mod runs;

@@ -4,11 +4,10 @@ ghost use Rattle.gix_date_tool.specs as Spec;
 ghost use Rattle.streams.specs as Streams;
 
 pub(crate) mod arguments;
-mod help;
 mod outcome;
 
+use crate::help::text_asked;
 use crate::program::arguments::{Request, WrongWords, read_words};
-use crate::program::help::text_asked;
 use crate::program::outcome::Outcome;
 use crate::runs::run;
 use gix_date::device::{Sink, Source, put_all};

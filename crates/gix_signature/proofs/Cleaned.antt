@@ -1,6 +1,8 @@
 -- What Git writes of a name and a mail, and a written or canonical time: such a line passes.
 use Rattle.std.proofs.lemmas.Grind.{common_steps}
-use Rattle.std.proofs.Common.{◌≡◌, ◌∙◌, ℕ, ◌+◌, ◌*◌, ◌/◌, ◌%◌, ◌<◌, ◌≤ℤ◌, Bool, true, false, cond, not, ◌||◌, ◌==◌, List, [], ◌∷◌, ◌++◌, length, ℤ, pos, negsuc, neg_ℤ, Option, Some, None, Err, IfOk, ok_or, option_map, unsigned_abs, FitsSigned, w64, refl, ap, sym, subst, arith, append_assoc}
+use Rattle.std.proofs.Common.{◌≡◌, ◌∙◌, ℕ, ◌+◌, ◌*◌, ◌/◌, ◌%◌, ◌<◌, ◌≤ℤ◌, Bool, true, false, cond, not, ◌||◌, ◌==◌, List, [], ◌∷◌, ◌++◌}
+use Rattle.std.proofs.Common.{length, ℤ, pos, negsuc, neg_ℤ, Option, Some, None, Err, IfOk, ok_or, option_map, unsigned_abs, FitsSigned}
+use Rattle.std.proofs.Common.{w64, refl, ap, sym, subst, arith, append_assoc}
 use Rattle.std.proofs.lemmas.Bool.{and_from, and_parts}
 use Rattle.std.proofs.lemmas.Bool.Decides.{nat_tests}
 use Rattle.std.proofs.lemmas.Int.{ints}
@@ -12,7 +14,8 @@ use Rattle.std.specs.List.{list_all, list_any, filter}
 use Rattle.std.specs.Prelude.{int_lt}
 use Rattle.gix_date.proofs.Fast.FastHeaders.{usual-header}
 use Rattle.gix_date.proofs.Fields.FieldsTaken.{time_at}
-use Rattle.gix_date.proofs.Header.HeaderLaws.{canonical_taken, canonical_back, header-fits, decimal-int, zone-read, written_fields, sign_for}
+use Rattle.gix_date.proofs.Header.HeaderLaws.{canonical_taken, canonical_back, header-fits, decimal-int, zone-read, written_fields}
+use Rattle.gix_date.proofs.Header.HeaderLaws.{sign_for}
 use Rattle.gix_date.specs.Fields.Offsets.{compact_offset_text, signed}
 use Rattle.gix_date.specs.Header.Reading.{header_time}
 use Rattle.gix_date.specs.Header.Text.{header_text}
@@ -63,7 +66,8 @@ left-none false b h = (refl, h)
 
 none-nul : (xs : List ℕ) → list_any is_nul xs ≡ false → list_all not_nul xs ≡ true
 none-nul [] h = refl
-none-nul (x ∷ xs) h = let each = left-none (is_nul x) (list_any is_nul xs) h in and_from (not_nul x) (list_all not_nul xs) each.0 (none-nul xs each.1)
+none-nul (x ∷ xs) h = let each = left-none (is_nul x) (list_any is_nul xs) h in
+    and_from (not_nul x) (list_all not_nul xs) each.0 (none-nul xs each.1)
 
 not-both : (a b : Bool) → not a ≡ true → not b ≡ true → not (a || b) ≡ true
 not-both true b h k = h
@@ -75,27 +79,33 @@ kept-by x xs false e h k = k
 
 kept-part : (xs : List ℕ) → list_all not_nul xs ≡ true → is_part (filter is_kept xs) ≡ true
 kept-part [] h = refl
-kept-part (x ∷ xs) h = let each = and_parts (not_nul x) (list_all not_nul xs) h in kept-by x (filter is_kept xs) (is_kept x) refl each.0 (kept-part xs each.1)
+kept-part (x ∷ xs) h = let each = and_parts (not_nul x) (list_all not_nul xs) h in
+    kept-by x (filter is_kept xs) (is_kept x) refl each.0 (kept-part xs each.1)
 
 -- what is cleaned may be a part
 cleaned-part : (part : List ℕ) → list_any is_nul part ≡ false → is_part (cleaned part) ≡ true
 cleaned-part part h = grind (arith, nat_tests, common_steps, kept-part, list_all-from_AllPass, none-nul)
 
 -- A time from the epoch on.
-dated : (name mail text : List ℕ) (z o : ℤ) → pos 0 ≤ℤ z → FitsSigned w64 z → unsigned_abs o < 360000 → text ≡ decimal_text z ++ (space ∷ compact_offset_text o)
+dated : (name mail text : List ℕ) (z o : ℤ) → pos 0 ≤ℤ z → FitsSigned w64 z → unsigned_abs o < 360000
+    → text ≡ decimal_text z ++ (space ∷ compact_offset_text o)
     → ArePlain (record { name = name; mail = mail; time = text })
-    → PassesAs (without_end is_blank name) mail (in_minutes (record { seconds = z; offset = o })) (line_of (record { name = name; mail = mail; time = text }))
+    → PassesAs (without_end is_blank name) mail (in_minutes (record { seconds = z; offset = o }))
+    (line_of (record { name = name; mail = mail; time = text }))
 dated name mail text (pos n) o from f short whole are = passes-as name mail n o (omega (arith, f.sfits)) short text whole are
 dated name mail text (negsuc n) o from f short whole are = absurd (grind (arith, ints, from))
 
 -- a header text is read as its time in whole minutes
-minutes-said : (b : Bool) (m : ℕ) → signed (sign_for b) (3600 * (m / 3600) + 60 * (m % 3600 / 60) + 0) ≡ cond b (neg_ℤ (pos (60 * (m / 60)))) (pos (60 * (m / 60)))
+minutes-said : (b : Bool) (m : ℕ)
+    → signed (sign_for b) (3600 * (m / 3600) + 60 * (m % 3600 / 60) + 0) ≡ cond b (neg_ℤ (pos (60 * (m / 60)))) (pos (60 * (m / 60)))
 minutes-said true m = ap (λ n. neg_ℤ (pos n)) (omega arith)
 minutes-said false m = ap pos (omega arith)
 
-read-in-minutes : (t : Time) → FitsSigned w64 t.seconds → unsigned_abs t.offset < 360000 → header_time (decimal_text t.seconds ++ (space ∷ compact_offset_text t.offset)) ≡ Some (in_minutes t)
+read-in-minutes : (t : Time) → FitsSigned w64 t.seconds → unsigned_abs t.offset < 360000
+    → header_time (decimal_text t.seconds ++ (space ∷ compact_offset_text t.offset)) ≡ Some (in_minutes t)
 read-in-minutes t f short =
-    usual-header (decimal_text t.seconds) (compact_offset_text t.offset) t.seconds (written_fields t.offset) (decimal-int t.seconds f) (zone-read t.offset short)
+    usual-header (decimal_text t.seconds) (compact_offset_text t.offset) t.seconds (written_fields t.offset) (decimal-int t.seconds f)
+    (zone-read t.offset short)
     ∙ ap (λ o. Some (time_at t.seconds o)) (minutes-said (int_lt t.offset (pos 0)) (unsigned_abs t.offset))
 
 pub canonical_passes : (line : List ℕ) → CanonicalPasses line
@@ -107,33 +117,39 @@ canonical_passes line p t cut canonical read from =
     let same : in_minutes r ≡ t = same_Some (in_minutes r) t (sym (ap header_time is.whole ∙ read-in-minutes r f is.short) ∙ read) in
     let start : pos 0 ≤ℤ r.seconds = subst (λ z. pos 0 ≤ℤ z) (sym (ap (λ (t : Time). t.seconds) same)) from in
     subst (λ l. PassesAs (without_end is_blank p.name) p.mail t l) (sym cut.whole)
-    (subst (λ t. PassesAs (without_end is_blank p.name) p.mail t (line_of p)) same (dated p.name p.mail p.time r.seconds r.offset start f is.short is.whole (plain p cut.allowed)))
+    (subst (λ t. PassesAs (without_end is_blank p.name) p.mail t (line_of p)) same
+    (dated p.name p.mail p.time r.seconds r.offset start f is.short is.whole (plain p cut.allowed)))
 
 -- What is due is read again.
 module _ (name mail : List ℕ) (t : Time) (f : FitsSigned w64 t.seconds) where
   abbrev Passes : List ℕ → Type 0
   Passes line = PassesAs (cleaned name) (cleaned mail) (in_minutes t) line
 
-  due-line : (text : List ℕ) → is_part (cleaned name) ≡ true → is_part (cleaned mail) ≡ true → pos 0 ≤ℤ t.seconds → header_text t ≡ Some text → Passes (line_of (cleaned_parts name mail text))
+  due-line : (text : List ℕ) → is_part (cleaned name) ≡ true → is_part (cleaned mail) ≡ true → pos 0 ≤ℤ t.seconds
+      → header_text t ≡ Some text → Passes (line_of (cleaned_parts name mail text))
   due-line text a b from h =
       let is = text-is t text f h in
-      let at = dated (cleaned name) (cleaned mail) text t.seconds t.offset from f is.short is.whole (record { name = a; mail = b; time = is.stands }) in
+      let at = dated (cleaned name) (cleaned mail) text t.seconds t.offset from f is.short is.whole
+      (record { name = a; mail = b; time = is.stands }) in
       subst (λ n. PassesAs n (cleaned mail) (in_minutes t) (line_of (cleaned_parts name mail text))) (cleaned-ends name) at
 
-  due-dated : (b : Bool) → int_lt t.seconds (pos 0) ≡ b → (o : Option (List ℕ)) → header_text t ≡ o → is_part (cleaned name) ≡ true → is_part (cleaned mail) ≡ true
+  due-dated : (b : Bool) → int_lt t.seconds (pos 0) ≡ b → (o : Option (List ℕ)) → header_text t ≡ o → is_part (cleaned name) ≡ true
+      → is_part (cleaned mail) ≡ true
       → IfOk (cond b (Err BeforeEpoch) (ok_or (option_map (λ time. line_of (cleaned_parts name mail time)) o) OffsetTooWide)) Passes
   due-dated true e o h a b = tt
   due-dated false e None h a b = tt
   due-dated false e (Some text) h a b = due-line text a b (grind (arith, ints, e)) h
 
   due-by : (n m e c : Bool) → list_any is_nul name ≡ n → list_any is_nul mail ≡ m
-      → IfOk (cond (n || m) (Err NulInPart) (cond e (Err EmptyName) (cond c (Err OnlyCrud) (cond (int_lt t.seconds (pos 0)) (Err BeforeEpoch)
+      → IfOk
+      (cond (n || m) (Err NulInPart) (cond e (Err EmptyName) (cond c (Err OnlyCrud) (cond (int_lt t.seconds (pos 0)) (Err BeforeEpoch)
       (ok_or (option_map (λ time. line_of (cleaned_parts name mail time)) (header_text t)) OffsetTooWide))))) Passes
   due-by true m e c h k = tt
   due-by false true e c h k = tt
   due-by false false true c h k = tt
   due-by false false false true h k = tt
-  due-by false false false false h k = due-dated (int_lt t.seconds (pos 0)) refl (header_text t) refl (cleaned-part name h) (cleaned-part mail k)
+  due-by false false false false h k =
+      due-dated (int_lt t.seconds (pos 0)) refl (header_text t) refl (cleaned-part name h) (cleaned-part mail k)
 
   pub written_passes : WrittenPasses name mail t
   unfolding ident_due

@@ -1,6 +1,7 @@
 -- A line has one cut at most.
 use Rattle.std.proofs.Common.{arith}
-use Rattle.std.proofs.Common.{◌≡◌, ◌∙◌, ℕ, Bool, true, false, not, ◌||◌, ◌==◌, List, [], ◌∷◌, ◌++◌, drop, get_or, refl, ap, sym, append_assoc}
+use Rattle.std.proofs.Common.{◌≡◌, ◌∙◌, ℕ, Bool, true, false, not, ◌||◌, ◌==◌, List, [], ◌∷◌, ◌++◌, drop, get_or, refl, ap, sym}
+use Rattle.std.proofs.Common.{append_assoc}
 use Rattle.std.proofs.lemmas.Bool.{and_from, and_parts}
 use Rattle.std.proofs.lemmas.List.{append_cancel_right}
 use Rattle.std.proofs.lemmas.List.Folds.{list_all-append}
@@ -12,7 +13,8 @@ use Rattle.gix_signature.specs.Signature.{Parts, IsCut, is_allowed, is_part, are
 -- what passes one test passes another
 pub all-of : (p q : ℕ → Bool) → ((c : ℕ) → p c ≡ true → q c ≡ true) → (xs : List ℕ) → list_all p xs ≡ true → list_all q xs ≡ true
 all-of p q to [] h = refl
-all-of p q to (x ∷ xs) h = let each = and_parts (p x) (list_all p xs) h in and_from (q x) (list_all q xs) (to x each.0) (all-of p q to xs each.1)
+all-of p q to (x ∷ xs) h = let each = and_parts (p x) (list_all p xs) h in
+    and_from (q x) (list_all q xs) (to x each.0) (all-of p q to xs each.1)
 
 not-all : (p : ℕ → Bool) (c : ℕ) (xs ys : List ℕ) → p c ≡ false → list_all p (xs ++ (c ∷ ys)) ≡ true → ⊥
 not-all p c xs ys other h = grind (arith, and_parts, list_all-append)
@@ -57,7 +59,8 @@ pub marked : (name rest : List ℕ) → name ++ (codes " <" ++ rest) ≡ (name +
 marked name rest = sym (append_assoc name (32 ∷ []) (opening ∷ rest))
 
 -- where ` <` stands in a line that has a cut, the line is cut
-pub the-front : (line name rest : List ℕ) (q : Parts) → line ≡ name ++ (codes " <" ++ rest) → IsCut line q → (name ≡ q.name) × (rest ≡ after_name q)
+pub the-front : (line name rest : List ℕ) (q : Parts) → line ≡ name ++ (codes " <" ++ rest) → IsCut line q
+    → (name ≡ q.name) × (rest ≡ after_name q)
 the-front line name rest q whole cut =
     let are = plain q cut.allowed in
     let blank : List ℕ = 32 ∷ [] in

@@ -1,5 +1,7 @@
 -- A written date: decimal digits, a space, a sign and four digits. What C, `git fsck` and Git read of it.
-use Rattle.std.proofs.Common.{◌≡◌, ◌∙◌, ℕ, ◌+◌, ◌*◌, ◌/◌, ◌%◌, ◌^◌, ◌<◌, ◌≤◌, Bool, true, false, cond, not, ◌&&◌, ◌||◌, ◌==◌, List, [], ◌∷◌, ◌++◌, length, take, drop, Some, None, Ok, ℤ, pos, negsuc, neg_ℤ, unsigned_abs, zero, suc, refl, ap, ap₂, sym, arith}
+use Rattle.std.proofs.Common.{◌≡◌, ◌∙◌, ℕ, ◌+◌, ◌*◌, ◌/◌, ◌%◌, ◌^◌, ◌<◌, ◌≤◌, Bool, true, false, cond, not, ◌&&◌, ◌||◌, ◌==◌, List, [], ◌∷◌}
+use Rattle.std.proofs.Common.{◌++◌, length, take, drop, Some, None, Ok, ℤ, pos, negsuc, neg_ℤ, unsigned_abs, zero, suc, refl, ap, ap₂, sym}
+use Rattle.std.proofs.Common.{arith}
 use Rattle.std.proofs.Math.Seq.{take-append_seam, drop-append_seam}
 use Rattle.std.proofs.lemmas.Bool.{and_from, and_parts}
 use Rattle.std.proofs.lemmas.Bool.Decides.{nat_tests}
@@ -21,11 +23,14 @@ use Rattle.gix_date.specs.Fields.Offsets.{compact_offset_text, offset_sign, hour
 use Rattle.gix_signature.specs.Ident.Bytes.{is_blank, is_white, is_minus, is_sign}
 use Rattle.gix_signature.specs.Ident.Texts.{without_front, begins_with}
 use Rattle.gix_signature.specs.Ident.Parts.{date_parts, after_seconds, offset_at_front, begins_with_offset}
-use Rattle.gix_signature.specs.Ident.Times.{c_number, c_value, number_at_front, without_sign, too_many_seconds, kept_offset, least_offset, greatest_offset, minutes_told, with_sign_of, time_of_git, git_time}
+use Rattle.gix_signature.specs.Ident.Times.{c_number, c_value, number_at_front, without_sign, too_many_seconds, kept_offset, least_offset}
+use Rattle.gix_signature.specs.Ident.Times.{greatest_offset, minutes_told, with_sign_of, time_of_git, git_time}
 use Rattle.gix_signature.specs.Ident.Laws.{in_minutes}
 use Rattle.gix_signature.specs.Ident.Fsck.{has_date_fault, is_zero, is_fsck_zone}
 use Rattle.gix_signature.specs.declared.fsck.FsckId.{FsckId}
-use Rattle.gix_signature.specs.declared.fsck.FsckId.TheVariants.{NulInHeader, MissingNameBeforeEmail, BadName, MissingEmail, MissingSpaceBeforeEmail, BadEmail, MissingSpaceBeforeDate, ZeroPaddedDate, BadDateOverflow, BadDate, BadTimezone}
+use Rattle.gix_signature.specs.declared.fsck.FsckId.TheVariants.{NulInHeader, MissingNameBeforeEmail, BadName, MissingEmail}
+use Rattle.gix_signature.specs.declared.fsck.FsckId.TheVariants.{MissingSpaceBeforeEmail, BadEmail, MissingSpaceBeforeDate, ZeroPaddedDate}
+use Rattle.gix_signature.specs.declared.fsck.FsckId.TheVariants.{BadDateOverflow, BadDate, BadTimezone}
 use Rattle.gix_signature.proofs.Shown.{run-len, run-all}
 use Rattle.gix_signature.proofs.Texts.{add-one-front}
 
@@ -103,16 +108,19 @@ module _ (n d : ℕ) (ds : List ℕ) (s : ℕ) (zs : List ℕ) (is : IsDate n d 
   unsigned = ap (λ b. cond b (drop 1 date) date) (no-sign d is.digit)
 
   kept : c_value false n ≡ n
-  kept = let fits : nat_lt n 18446744073709551616 ≡ true = grind (arith, nat_tests, is.small) in ap (λ b. cond b n 18446744073709551615) fits
+  kept = let fits : nat_lt n 18446744073709551616 ≡ true = grind (arith, nat_tests, is.small) in
+      ap (λ b. cond b n 18446744073709551615) fits
 
   -- the number that C reads
   pub number : c_number date ≡ Some (n, 32 ∷ zone)
   unfolding c_number
   number =
       ap number_at_front (front-stays is_white d (ds ++ (32 ∷ zone)) (no-white d is.digit))
-      ∙ ap₂ (λ m ys. cond (begins_with is_ascii_digit ys) (Some (c_value m (digits_value 10 (take_while is_ascii_digit ys)), without_front is_ascii_digit ys)) None)
+      ∙ ap₂ (λ m ys. cond (begins_with is_ascii_digit ys)
+      (Some (c_value m (digits_value 10 (take_while is_ascii_digit ys)), without_front is_ascii_digit ys)) None)
       (no-minus d is.digit) unsigned
-      ∙ ap (λ b. cond b (Some (c_value false (digits_value 10 (take_while is_ascii_digit date)), without_front is_ascii_digit date)) None) is.digit
+      ∙ ap (λ b. cond b (Some (c_value false (digits_value 10 (take_while is_ascii_digit date)), without_front is_ascii_digit date)) None)
+      is.digit
       ∙ ap₂ (λ xs ys. Some (c_value false (digits_value 10 xs), ys)) taken left
       ∙ ap (λ k. Some (c_value false k, 32 ∷ zone)) is.value
       ∙ ap (λ k. Some (k, 32 ∷ zone)) kept
@@ -123,7 +131,8 @@ module _ (n d : ℕ) (ds : List ℕ) (s : ℕ) (zs : List ℕ) (is : IsDate n d 
   unpadded false e = refl
 
   five : is_fsck_zone zone ≡ true
-  five = and_from (is_sign s && (length zone == 5)) (list_all is_ascii_digit zs) (and_from (is_sign s) (length zone == 5) is.sign (grind (arith, nat_tests, is.four))) is.zone
+  five = and_from (is_sign s && (length zone == 5)) (list_all is_ascii_digit zs)
+      (and_from (is_sign s) (length zone == 5) is.sign (grind (arith, nat_tests, is.four))) is.zone
 
   pub no-date-fault : (id : FsckId) → has_date_fault date id ≡ false
   no-date-fault ZeroPaddedDate = unpadded (is_zero d) refl
@@ -142,7 +151,8 @@ module _ (n d : ℕ) (ds : List ℕ) (s : ℕ) (zs : List ℕ) (is : IsDate n d 
 
   -- what Git shows of it
   zone-next : after_seconds date ≡ zone
-  zone-next = ap (λ ys. without_front is_blank ys) left ∙ front-more is_blank 32 zone refl ∙ front-stays is_blank s zs (sign-no-blank s is.sign)
+  zone-next = ap (λ ys. without_front is_blank ys) left ∙ front-more is_blank 32 zone refl
+      ∙ front-stays is_blank s zs (sign-no-blank s is.sign)
 
   some-zone : (xs : List ℕ) → length xs ≡ 4 → list_all is_ascii_digit xs ≡ true → begins_with is_ascii_digit xs ≡ true
   some-zone [] e h = absurd (omega (arith, e))
@@ -157,7 +167,9 @@ module _ (n d : ℕ) (ds : List ℕ) (s : ℕ) (zs : List ℕ) (is : IsDate n d 
   pub parts : date_parts date ≡ Some (record { seconds = d ∷ ds; offset = zone })
   unfolding date_parts
   parts =
-      ap₂ (λ b ys. cond (b && begins_with_offset ys) (Some (record { seconds = take_while is_ascii_digit date; offset = offset_at_front ys })) None) is.digit zone-next
+      ap₂ (λ b ys.
+      cond (b && begins_with_offset ys) (Some (record { seconds = take_while is_ascii_digit date; offset = offset_at_front ys })) None)
+      is.digit zone-next
       ∙ ap (λ b. cond b (Some (record { seconds = take_while is_ascii_digit date; offset = offset_at_front zone })) None) has-zone
       ∙ ap₂ (λ xs ys. Some (record { seconds = xs; offset = ys })) taken all-zone
 
@@ -175,7 +187,8 @@ pairs-value : (h m : ℕ) → h < 100 → m < 100 → digits_value 10 (two_digit
 pairs-value h m a b = grind (arith, digit-value)
 
 -- The time of a written offset.
-sign-value : (b : Bool) (ds : List ℕ) → signed_digits_value 10 ((if b then minus else plus) ∷ ds) ≡ cond b (neg_ℤ (pos (digits_value 10 ds))) (pos (digits_value 10 ds))
+sign-value : (b : Bool) (ds : List ℕ)
+    → signed_digits_value 10 ((if b then minus else plus) ∷ ds) ≡ cond b (neg_ℤ (pos (digits_value 10 ds))) (pos (digits_value 10 ds))
 sign-value true ds = refl
 sign-value false ds = refl
 
@@ -190,7 +203,8 @@ not-above (negsuc k) h = grind (arith, ints)
 kept-small : (z : ℤ) → unsigned_abs z < 10000 → kept_offset z ≡ z
 kept-small z h = ap₂ (λ a b. cond (a || b) (pos 0) z) (not-below z h) (not-above z h)
 
-told-small : (s z : ℤ) → unsigned_abs z < 10000 → time_of_git (record { seconds = s; offset = z }) ≡ Ok (record { seconds = s; offset = with_sign_of z (60 * minutes_told (unsigned_abs z)) })
+told-small : (s z : ℤ) → unsigned_abs z < 10000 → time_of_git (record { seconds = s; offset = z })
+    ≡ Ok (record { seconds = s; offset = with_sign_of z (60 * minutes_told (unsigned_abs z)) })
 unfolding time_of_git
 told-small s z h = grind (arith, nat_tests)
 
@@ -210,16 +224,19 @@ minutes-are n = omega arith
 
 -- the time of a number with its sign, of that many seconds
 time-at : (n told m : ℕ) (b : Bool) → told < 10000 → 60 * minutes_told told ≡ m
-    → time_of_git (record { seconds = pos n; offset = kept_offset (cond b (neg_ℤ (pos told)) (pos told)) }) ≡ Ok (record { seconds = pos n; offset = cond b (neg_ℤ (pos m)) (pos m) })
+    → time_of_git (record { seconds = pos n; offset = kept_offset (cond b (neg_ℤ (pos told)) (pos told)) })
+    ≡ Ok (record { seconds = pos n; offset = cond b (neg_ℤ (pos m)) (pos m) })
 time-at n told m b small minutes = grind (arith, abs-alike, kept-small, told-small, signed-alike)
 
 pub time-is : (n : ℕ) (o : ℤ) (ds : List ℕ) → n < too_many_seconds → unsigned_abs o < 360000 → digits_value 10 ds ≡ n
-    → time_of_git (git_time (record { seconds = ds; offset = compact_offset_text o })) ≡ Ok (in_minutes (record { seconds = pos n; offset = o }))
+    → time_of_git (git_time (record { seconds = ds; offset = compact_offset_text o }))
+    ≡ Ok (in_minutes (record { seconds = pos n; offset = o }))
 unfolding git_time
 time-is n o ds small short value = grind (arith, nat_tests, sign-value, pairs-value, time-at, minutes-are)
 
 -- a number and an offset, written as a date
-pub date-is : (n : ℕ) (o : ℤ) (k : AreDecimal n (decimal n)) → n < too_many_seconds → unsigned_abs o < 360000 → IsDate n k.first k.rest (offset_sign o) (hours_and_minutes (unsigned_abs o))
+pub date-is : (n : ℕ) (o : ℤ) (k : AreDecimal n (decimal n)) → n < too_many_seconds → unsigned_abs o < 360000
+    → IsDate n k.first k.rest (offset_sign o) (hours_and_minutes (unsigned_abs o))
 date-is n o k small short =
     let m = unsigned_abs o in
     record {
@@ -229,7 +246,8 @@ date-is n o k small short =
       value = ap (λ xs. digits_value 10 xs) (sym k.whole) ∙ (decimal_is_IsNumeral n (omega (arith, small))).1;
       small = small;
       sign = a-sign (int_lt o (pos 0));
-      zone = all-append is_ascii_digit (two_digits (m / 3600)) (two_digits (m % 3600 / 60)) (pair-digits (m / 3600) (omega arith)) (pair-digits (m % 3600 / 60) (omega arith));
+      zone = all-append is_ascii_digit (two_digits (m / 3600)) (two_digits (m % 3600 / 60)) (pair-digits (m / 3600) (omega arith))
+          (pair-digits (m % 3600 / 60) (omega arith));
       four = refl;
     }
   where

@@ -12,8 +12,10 @@ use Rattle.gix_signature.specs.Ident.Due.{cleaned, ident_due}
 use Rattle.gix_signature.specs.declared.error.IdentFault.TheVariants.{NulInPart, EmptyName, OnlyCrud, BeforeEpoch, OffsetTooWide}
 use Rattle.gix_signature.specs.declared.fsck.FsckFault.{FsckFault}
 use Rattle.gix_signature.specs.declared.fsck.FsckId.{FsckId}
-use Rattle.gix_signature.specs.declared.fsck.FsckId.TheVariants.{NulInHeader, MissingNameBeforeEmail, BadName, MissingEmail, MissingSpaceBeforeEmail, BadEmail, MissingSpaceBeforeDate, ZeroPaddedDate, BadDateOverflow, BadDate, BadTimezone}
-use Rattle.gix_signature.specs.declared.ident.time.GitTime.{GitTime}
+use Rattle.gix_signature.specs.declared.fsck.FsckId.TheVariants.{NulInHeader, MissingNameBeforeEmail, BadName, MissingEmail}
+use Rattle.gix_signature.specs.declared.fsck.FsckId.TheVariants.{MissingSpaceBeforeEmail, BadEmail, MissingSpaceBeforeDate, ZeroPaddedDate}
+use Rattle.gix_signature.specs.declared.fsck.FsckId.TheVariants.{BadDateOverflow, BadDate, BadTimezone}
+use Rattle.gix_signature.specs.declared.ident.GitTime.{GitTime}
 
 abbrev date : List ℕ → List ℕ → DateText
 date seconds offset = record { seconds = seconds; offset = offset }
@@ -45,8 +47,10 @@ unfolding line_parts date_parts
 undated = (refl, refl, refl, refl, refl, refl, refl, refl)
 
 -- lines without an identity
-nobody : (ident_parts (codes "A a@b> 5 +0000") ≡ None) × (ident_parts (codes "A <a@b 5 +0000") ≡ None) × (ident_parts (codes "A >a< 5 +0000") ≡ None)
-    × (ident_parts (codes "A\n<a@b> 5 +0000") ≡ None) × (ident_parts (codes "A" ++ 0 ∷ codes "<a@b> 5 +0000") ≡ None) × (ident_parts [] ≡ None)
+nobody : (ident_parts (codes "A a@b> 5 +0000") ≡ None) × (ident_parts (codes "A <a@b 5 +0000") ≡ None)
+    × (ident_parts (codes "A >a< 5 +0000") ≡ None)
+    × (ident_parts (codes "A\n<a@b> 5 +0000") ≡ None) × (ident_parts (codes "A" ++ 0 ∷ codes "<a@b> 5 +0000") ≡ None)
+    × (ident_parts [] ≡ None)
 unfolding line_parts date_parts
 nobody = (refl, refl, refl, refl, refl, refl)
 
@@ -68,14 +72,17 @@ at offset = record { seconds = pos 5; offset = pos offset }
 converted : (time_of_git (at 60) ≡ Ok (record { seconds = pos 5; offset = pos 3600 }))
     × (time_of_git (at 9999) ≡ Ok (record { seconds = pos 5; offset = pos 362340 }))
     × (time_of_git (record { seconds = pos 5; offset = negsuc 129 }) ≡ Ok (record { seconds = pos 5; offset = negsuc 5399 }))
-    × (time_of_git (at 59652314) ≡ Ok (record { seconds = pos 5; offset = pos 2147483640 })) × (time_of_git (at 59652315) ≡ Err OffsetTooWide)
+    × (time_of_git (at 59652314) ≡ Ok (record { seconds = pos 5; offset = pos 2147483640 }))
+    × (time_of_git (at 59652315) ≡ Err OffsetTooWide)
 unfolding time_of_git
 converted = (refl, refl, refl, refl, refl)
 
 -- numbers as C reads them
-numbers : (c_number (codes " \n5 x") ≡ Some (5, codes " x")) × (c_number (codes "+5") ≡ Some (5, [])) × (c_number (codes "-0") ≡ Some (0, []))
+numbers : (c_number (codes " \n5 x") ≡ Some (5, codes " x")) × (c_number (codes "+5") ≡ Some (5, []))
+    × (c_number (codes "-0") ≡ Some (0, []))
     × (c_number (codes "-18446744073709551615 ") ≡ Some (1, codes " ")) × (c_number (codes "-5") ≡ Some (18446744073709551611, []))
-    × (c_number (codes "-18446744073709551616") ≡ Some (18446744073709551615, [])) × (c_number (codes "x") ≡ None) × (c_number (codes "- 5") ≡ None)
+    × (c_number (codes "-18446744073709551616") ≡ Some (18446744073709551615, [])) × (c_number (codes "x") ≡ None)
+    × (c_number (codes "- 5") ≡ None)
 unfolding c_number
 numbers = (refl, refl, refl, refl, refl, refl, refl, refl)
 
@@ -86,13 +93,16 @@ fault id place = Some (record { id = id; place = place })
 names : (fsck_of (codes "<a> 5 +0000") ≡ fault MissingNameBeforeEmail 0) × (fsck_of (codes "A >a< 5 +0000") ≡ fault BadName 2)
     × (fsck_of (codes "A a 5 +0000") ≡ fault MissingEmail 11) × (fsck_of (codes "A<a> 5 +0000") ≡ fault MissingSpaceBeforeEmail 1)
     × (fsck_of (codes "A <a<b> 5 +0000") ≡ fault BadEmail 4) × (fsck_of (codes "A <a 5 +0000") ≡ fault BadEmail 12)
-    × (fsck_of (codes "A <a>5 +0000") ≡ fault MissingSpaceBeforeDate 5) × (fsck_of (codes "A" ++ 0 ∷ codes "<a> 5 +0000") ≡ fault NulInHeader 1)
+    × (fsck_of (codes "A <a>5 +0000") ≡ fault MissingSpaceBeforeDate 5)
+    × (fsck_of (codes "A" ++ 0 ∷ codes "<a> 5 +0000") ≡ fault NulInHeader 1)
 unfolding fsck_of first_fault c_number
 names = (refl, refl, refl, refl, refl, refl, refl, refl)
 
 -- what fsck says, by date
-dates : (fsck_of (codes "A <a> 05 +0000") ≡ fault ZeroPaddedDate 6) × (fsck_of (codes "A <a> 9223372036854775808 +0000") ≡ fault BadDateOverflow 6)
-    × (fsck_of (codes "A <a> -5 +0000") ≡ fault BadDateOverflow 6) × (fsck_of (codes "A <a> 99999999999999999999x") ≡ fault BadDateOverflow 6)
+dates : (fsck_of (codes "A <a> 05 +0000") ≡ fault ZeroPaddedDate 6)
+    × (fsck_of (codes "A <a> 9223372036854775808 +0000") ≡ fault BadDateOverflow 6)
+    × (fsck_of (codes "A <a> -5 +0000") ≡ fault BadDateOverflow 6)
+    × (fsck_of (codes "A <a> 99999999999999999999x") ≡ fault BadDateOverflow 6)
     × (fsck_of (codes "A <a> ") ≡ fault BadDate 6) × (fsck_of (codes "A <a> 5+0000") ≡ fault BadDate 6)
     × (fsck_of (codes "A <a> 5 0000") ≡ fault BadTimezone 8) × (fsck_of (codes "A <a> 5 +0000 ") ≡ fault BadTimezone 8)
 unfolding fsck_of first_fault c_number
@@ -100,12 +110,14 @@ dates = (refl, refl, refl, refl, refl, refl, refl, refl)
 
 -- what passes
 passing : (fsck_of (codes "A <a> 5 +0000") ≡ None) × (fsck_of (codes " <> 0 +9999\n<") ≡ None) × (fsck_of (codes "A <a>   05 -0060") ≡ None)
-    × (fsck_of (codes "A <a> +5 +0000") ≡ None) × (fsck_of (codes "A <a> -0 +0000") ≡ None) × (fsck_of (codes "A <a> " ++ 12 ∷ codes "5 +0000") ≡ None)
+    × (fsck_of (codes "A <a> +5 +0000") ≡ None) × (fsck_of (codes "A <a> -0 +0000") ≡ None)
+    × (fsck_of (codes "A <a> " ++ 12 ∷ codes "5 +0000") ≡ None)
 unfolding fsck_of first_fault c_number
 passing = (refl, refl, refl, refl, refl, refl)
 
 -- crud: the bytes 1 and 32, and not 0, 33, 127 and 128
-edges : (is_crud 0 ≡ false) × (is_crud 1 ≡ true) × (is_crud 32 ≡ true) × (is_crud 33 ≡ false) × (is_crud 127 ≡ false) × (is_crud 128 ≡ false)
+edges : (is_crud 0 ≡ false) × (is_crud 1 ≡ true) × (is_crud 32 ≡ true) × (is_crud 33 ≡ false) × (is_crud 127 ≡ false)
+    × (is_crud 128 ≡ false)
 edges = (refl, refl, refl, refl, refl, refl)
 
 abbrev now : Time
@@ -118,7 +130,8 @@ unfolding ident_due header_text digits
 written = (refl, refl, refl)
 
 -- what is not, the first refusal first
-refused : (ident_due [] (0 ∷ []) now ≡ Err NulInPart) × (ident_due [] (codes "a") (record { seconds = negsuc 0; offset = pos 0 }) ≡ Err EmptyName)
+refused : (ident_due [] (0 ∷ []) now ≡ Err NulInPart)
+    × (ident_due [] (codes "a") (record { seconds = negsuc 0; offset = pos 0 }) ≡ Err EmptyName)
     × (ident_due (codes ".,:;<>\"\\'") (codes "a") (record { seconds = negsuc 0; offset = pos 0 }) ≡ Err OnlyCrud)
     × (ident_due (codes "A") (codes "a") (record { seconds = negsuc 0; offset = pos 360000 }) ≡ Err BeforeEpoch)
     × (ident_due (codes "A") (codes "a") (record { seconds = pos 0; offset = pos 360000 }) ≡ Err OffsetTooWide)

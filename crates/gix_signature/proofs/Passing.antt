@@ -1,5 +1,7 @@
 -- A line of plain parts, a decimal number and an offset has no fault, and is shown so.
-use Rattle.std.proofs.Common.{◌≡◌, ◌∙◌, ℕ, ◌+◌, ◌-◌, Bool, true, false, cond, not, ◌||◌, ◌==◌, ◌<◌, ℤ, pos, unsigned_abs, List, [], ◌∷◌, ◌++◌, length, drop, reverse, Some, None, option_map, refl, ap, ap₂, sym, subst, arith, length-append, append_assoc}
+use Rattle.std.proofs.Common.{◌≡◌, ◌∙◌, ℕ, ◌+◌, ◌-◌, Bool, true, false, cond, not, ◌||◌, ◌==◌, ◌<◌, ℤ, pos, unsigned_abs, List, [], ◌∷◌}
+use Rattle.std.proofs.Common.{◌++◌, length, drop, reverse, Some, None, option_map, refl, ap, ap₂, sym, subst, arith, length-append}
+use Rattle.std.proofs.Common.{append_assoc}
 use Rattle.std.proofs.Math.Seq.{drop-append_seam, drop-append-add}
 use Rattle.std.proofs.lemmas.Bool.{and_from, and_parts}
 use Rattle.std.proofs.lemmas.Bool.Decides.{nat_tests}
@@ -14,14 +16,18 @@ use Rattle.gix_signature.specs.Signature.{Parts, is_allowed, is_part, line_of, o
 use Rattle.gix_signature.specs.Ident.Bytes.{is_opening, is_closing, is_bracket, is_newline, is_nul, is_blank, ends_line}
 use Rattle.gix_signature.specs.Ident.Texts.{from_first, begins_with, ends_with, without_front, without_end}
 use Rattle.gix_signature.specs.Ident.Parts.{ident_parts, line_parts, date_parts, date_text}
-use Rattle.gix_signature.specs.Ident.Fsck.{fsck_of, fsck_ids, first_fault, fault_at, has_fault, from_bracket, from_next_bracket, fsck_date, has_date_fault}
+use Rattle.gix_signature.specs.Ident.Fsck.{fsck_of, fsck_ids, first_fault, fault_at, has_fault, from_bracket, from_next_bracket, fsck_date}
+use Rattle.gix_signature.specs.Ident.Fsck.{has_date_fault}
 use Rattle.gix_signature.specs.Ident.Times.{too_many_seconds}
 use Rattle.gix_signature.specs.Ident.Laws.{PassesAs, in_minutes}
 use Rattle.gix_signature.specs.declared.fsck.FsckId.{FsckId}
-use Rattle.gix_signature.specs.declared.fsck.FsckId.TheVariants.{NulInHeader, MissingNameBeforeEmail, BadName, MissingEmail, MissingSpaceBeforeEmail, BadEmail, MissingSpaceBeforeDate, ZeroPaddedDate, BadDateOverflow, BadDate, BadTimezone}
+use Rattle.gix_signature.specs.declared.fsck.FsckId.TheVariants.{NulInHeader, MissingNameBeforeEmail, BadName, MissingEmail}
+use Rattle.gix_signature.specs.declared.fsck.FsckId.TheVariants.{MissingSpaceBeforeEmail, BadEmail, MissingSpaceBeforeDate, ZeroPaddedDate}
+use Rattle.gix_signature.specs.declared.fsck.FsckId.TheVariants.{BadDateOverflow, BadDate, BadTimezone}
 use Rattle.gix_signature.proofs.Cuts.{ArePlain, all-of, marked, no-opening, after_name}
 use Rattle.gix_signature.proofs.Texts.{none_there}
-use Rattle.gix_signature.proofs.Shown.{Cut, cut-of, run-len, run-all, place-at, there-at, last-len, end-more, all_stand_before, all-on, goes_on, no-closing}
+use Rattle.gix_signature.proofs.Shown.{Cut, cut-of, run-len, run-all, place-at, there-at, last-len, end-more, all_stand_before, all-on}
+use Rattle.gix_signature.proofs.Shown.{goes_on, no-closing}
 use Rattle.gix_signature.proofs.DateTexts.{IsDate, no-date-fault, parts, stays, front-more, are-decimal, date-is, time-is}
 
 -- a line without a fault has no first one
@@ -37,14 +43,16 @@ first-none line none = find-none (has_fault line) none fsck_ids
 none-passes : (p : ℕ → Bool) (xs : List ℕ) → list_all (λ c. not (p c)) xs ≡ true → list_any p xs ≡ false
 none-passes p xs h = none_there p xs (run-all (λ c. not (p c)) xs h)
 
-from-at : (p : ℕ → Bool) (xs ys : List ℕ) (c : ℕ) → list_all (λ b. not (p b)) xs ≡ true → p c ≡ true → from_first p (xs ++ (c ∷ ys)) ≡ c ∷ ys
+from-at : (p : ℕ → Bool) (xs ys : List ℕ) (c : ℕ) → list_all (λ b. not (p b)) xs ≡ true → p c ≡ true
+    → from_first p (xs ++ (c ∷ ys)) ≡ c ∷ ys
 from-at p xs ys c others is = ap (λ n. drop n (xs ++ (c ∷ ys))) (place-at p xs ys c others is) ∙ drop-append_seam xs (c ∷ ys)
 
 not-false : (b : Bool) → not b ≡ true → b ≡ false
 not-false true h = absurd cc
 not-false false h = refl
 
-begins-other : (p : ℕ → Bool) (xs ys : List ℕ) (c : ℕ) → list_all (λ b. not (p b)) xs ≡ true → p c ≡ false → begins_with p (xs ++ (c ∷ ys)) ≡ false
+begins-other : (p : ℕ → Bool) (xs ys : List ℕ) (c : ℕ) → list_all (λ b. not (p b)) xs ≡ true → p c ≡ false
+    → begins_with p (xs ++ (c ∷ ys)) ≡ false
 begins-other p [] ys c others is = is
 begins-other p (x ∷ xs) ys c others is = not-false (p x) (and_parts (not (p x)) (list_all (λ b. not (p b)) xs) others).0
 
@@ -52,17 +60,20 @@ all-turned : (p : ℕ → Bool) (xs : List ℕ) → list_all p xs ≡ true → l
 all-turned p [] h = refl
 all-turned p (x ∷ xs) h =
     let each = and_parts (p x) (list_all p xs) h in
-    ap (λ ys. list_all p ys) (reverse-append (x ∷ []) xs) ∙ all-append p (reverse xs) (x ∷ []) (all-turned p xs each.1) (and_from (p x) true each.0 refl)
+    ap (λ ys. list_all p ys) (reverse-append (x ∷ []) xs)
+    ∙ all-append p (reverse xs) (x ∷ []) (all-turned p xs each.1) (and_from (p x) true each.0 refl)
 
 -- what stands after the last byte that passes
 after-last : (p : ℕ → Bool) (xs ys : List ℕ) (c : ℕ) → list_all (λ b. not (p b)) ys ≡ true → p c ≡ true → after_last p (xs ++ (c ∷ ys)) ≡ ys
 after-last p xs ys c others is =
     let turned : reverse (xs ++ (c ∷ ys)) ≡ reverse ys ++ (c ∷ reverse xs) =
-    reverse-append xs (c ∷ ys) ∙ ap (λ zs. zs ++ reverse xs) (reverse-append (c ∷ []) ys) ∙ append_assoc (reverse ys) (c ∷ []) (reverse xs) in
+    reverse-append xs (c ∷ ys) ∙ ap (λ zs. zs ++ reverse xs) (reverse-append (c ∷ []) ys)
+    ∙ append_assoc (reverse ys) (c ∷ []) (reverse xs) in
     let len : suffix_len (λ b. not (p b)) (xs ++ (c ∷ ys)) ≡ length ys =
     ap (λ zs. prefix_len (λ b. not (p b)) zs) turned
     ∙ run-len (λ b. not (p b)) (reverse ys) (reverse xs) c (all-turned (λ b. not (p b)) ys others) (ap not is) ∙ length-reverse ys in
-    let place : length (xs ++ (c ∷ ys)) - suffix_len (λ b. not (p b)) (xs ++ (c ∷ ys)) ≡ length xs + 1 = omega (arith, len, length-append xs (c ∷ ys)) in
+    let place : length (xs ++ (c ∷ ys)) - suffix_len (λ b. not (p b)) (xs ++ (c ∷ ys)) ≡ length xs + 1 =
+    omega (arith, len, length-append xs (c ∷ ys)) in
     ap (λ n. drop n (xs ++ (c ∷ ys))) place ∙ drop-append-add xs (c ∷ ys) 1
 
 abbrev not_bracket : ℕ → Bool
@@ -144,7 +155,8 @@ module _ (name mail : List ℕ) (n d : ℕ) (ds : List ℕ) (s : ℕ) (zs : List
     no-fault NulInHeader = none-passes is_nul line no-nul
     no-fault MissingNameBeforeEmail = begins-other is_opening name (opening ∷ after_name the_parts) 32 (no-opening name are.name) refl
     no-fault BadName = ap (λ l. begins_with is_closing l) bracket
-    no-fault MissingEmail = ap (λ l. not (list_any is_bracket l)) same ∙ ap not (there-at is_bracket named (after_name the_parts) opening no-mark refl)
+    no-fault MissingEmail = ap (λ l. not (list_any is_bracket l)) same
+        ∙ ap not (there-at is_bracket named (after_name the_parts) opening no-mark refl)
     no-fault MissingSpaceBeforeEmail = ap (λ l. not (ends_with is_space l)) cut.name ∙ ap not spaced
     no-fault BadEmail = ap (λ l. not (begins_with is_closing l)) next
     no-fault MissingSpaceBeforeDate = ap (λ l. not (begins_with is_space (drop 1 l))) next
@@ -155,28 +167,39 @@ module _ (name mail : List ℕ) (n d : ℕ) (ds : List ℕ) (s : ℕ) (zs : List
 
     pub no-message : fsck_of line ≡ None
     unfolding fsck_of
-    no-message = ap (λ l. option_map (fault_at l) (first_fault l)) (all_stand_before is_newline line no-newline) ∙ ap (λ o. option_map (fault_at line) o) (first-none line no-fault)
+    no-message = ap (λ l. option_map (fault_at l) (first_fault l)) (all_stand_before is_newline line no-newline)
+        ∙ ap (λ o. option_map (fault_at line) o) (first-none line no-fault)
 
     tail : date_text line ≡ date
     tail =
         ap (λ l. without_front is_blank (after_last is_closing l)) (sym (append_assoc name (32 ∷ (opening ∷ mail)) dated))
-        ∙ ap (λ l. without_front is_blank l) (after-last is_closing (name ++ (32 ∷ (opening ∷ mail))) (32 ∷ date) closing (no-closing date are.time) refl)
+        ∙ ap (λ l. without_front is_blank l)
+        (after-last is_closing (name ++ (32 ∷ (opening ∷ mail))) (32 ∷ date) closing (no-closing date are.time) refl)
         ∙ front-more is_blank 32 date refl ∙ stays n d ds s zs is
 
-    shown-so : line_parts line ≡ Some (record { name = without_end is_blank name; mail = mail; date = Some (record { seconds = d ∷ ds; offset = zone }) })
+    shown-so : line_parts line
+        ≡ Some (record { name = without_end is_blank name; mail = mail; date = Some (record { seconds = d ∷ ds; offset = zone }) })
     unfolding line_parts
     shown-so =
-        ap (λ b. cond b (Some (record { name = without_end is_blank (before_first is_opening line); mail = before_first is_closing (after_first is_opening line); date = date_parts (date_text line) })) None) cut.has
-        ∙ ap₂ (λ x y. Some (record { name = x; mail = y; date = date_parts (date_text line) })) (ap (λ l. without_end is_blank l) cut.name ∙ end-more is_blank name 32 refl) cut.mail
+        ap (λ b. cond b (Some (record {
+          name = without_end is_blank (before_first is_opening line);
+          mail =
+              before_first is_closing (after_first is_opening line);
+          date = date_parts (date_text line);
+        })) None) cut.has
+        ∙ ap₂ (λ x y. Some (record { name = x; mail = y; date = date_parts (date_text line) }))
+        (ap (λ l. without_end is_blank l) cut.name ∙ end-more is_blank name 32 refl) cut.mail
         ∙ ap (λ o. Some (record { name = without_end is_blank name; mail = mail; date = o })) (ap date_parts tail ∙ parts n d ds s zs is)
 
-    pub shown : ident_parts line ≡ Some (record { name = without_end is_blank name; mail = mail; date = Some (record { seconds = d ∷ ds; offset = zone }) })
+    pub shown : ident_parts line
+        ≡ Some (record { name = without_end is_blank name; mail = mail; date = Some (record { seconds = d ∷ ds; offset = zone }) })
     shown = ap line_parts (all_stand_before ends_line line goes-on) ∙ shown-so
 
 -- The line of plain parts and a time from the epoch on.
 pub passes-as : (name mail : List ℕ) (n : ℕ) (o : ℤ) → n < too_many_seconds → unsigned_abs o < 360000
     → (text : List ℕ) → text ≡ decimal n ++ (space ∷ compact_offset_text o) → ArePlain (record { name = name; mail = mail; time = text })
-    → PassesAs (without_end is_blank name) mail (in_minutes (record { seconds = pos n; offset = o })) (line_of (record { name = name; mail = mail; time = text }))
+    → PassesAs (without_end is_blank name) mail (in_minutes (record { seconds = pos n; offset = o }))
+    (line_of (record { name = name; mail = mail; time = text }))
 passes-as name mail n o small short text whole are =
     let k = are-decimal n (omega (arith, small)) in
     let is = date-is n o k small short in

@@ -17,10 +17,12 @@ pub Cut-more : (old new : StreamState) (xs ys : List ℕ) → TakesProperPrefix 
 Cut-more old new xs ys h = grind (arith, length-append, take-append-le)
 
 -- a refusal within a text is one within a longer text too
-pub Puts-more : (old new : StreamState) (xs ys : List ℕ) (kind : ErrorKind) → Puts old new xs (Err kind) → Puts old new (xs ++ ys) (Err kind)
+pub Puts-more : (old new : StreamState) (xs ys : List ℕ) (kind : ErrorKind) → Puts old new xs (Err kind)
+    → Puts old new (xs ++ ys) (Err kind)
 Puts-more old new xs ys kind h = (Cut-more old new xs ys h.0, h.1)
 
 -- a text that was taken, and then what the next came to
-pub Puts-after : (old mid new : StreamState) (xs ys : List ℕ) (r : Result (Unit {0}) ErrorKind) → Takes old mid xs → Puts mid new ys r → Puts old new (xs ++ ys) r
+pub Puts-after : (old mid new : StreamState) (xs ys : List ℕ) (r : Result (Unit {0}) ErrorKind) → Takes old mid xs → Puts mid new ys r
+    → Puts old new (xs ++ ys) r
 Puts-after old mid new xs ys (Ok u) h k = Takes-then old mid new xs ys h k
 Puts-after old mid new xs ys (Err kind) h k = (Cut-after old mid new xs ys h k.0, k.1)

@@ -1,5 +1,6 @@
 -- What Git shows of a line that is cut.
-use Rattle.std.proofs.Common.{◌≡◌, ◌∙◌, ℕ, ◌+◌, Bool, true, false, cond, not, ◌||◌, ◌==◌, List, [], ◌∷◌, ◌++◌, length, take, drop, Some, None, IsSomeAnd, refl, ap, sym, arith, length-append}
+use Rattle.std.proofs.Common.{◌≡◌, ◌∙◌, ℕ, ◌+◌, Bool, true, false, cond, not, ◌||◌, ◌==◌, List, [], ◌∷◌, ◌++◌, length, take, drop, Some}
+use Rattle.std.proofs.Common.{None, IsSomeAnd, refl, ap, sym, arith, length-append}
 use Rattle.std.proofs.Math.Nat.{add-zero, zero-add}
 use Rattle.std.proofs.Math.Seq.{take-append_seam, drop-append-add}
 use Rattle.std.proofs.lemmas.Bool.{and_from, and_parts}
@@ -34,16 +35,20 @@ pub run-len : (p : ℕ → Bool) (xs ys : List ℕ) (c : ℕ) → list_all p xs 
 run-len p xs ys c all stops = grind (arith, run-before, add-zero)
 
 -- the first byte that passes, after some that do not
-pub place-at : (p : ℕ → Bool) (xs ys : List ℕ) (c : ℕ) → list_all (λ b. not (p b)) xs ≡ true → p c ≡ true → position_or_len p (xs ++ (c ∷ ys)) ≡ length xs
+pub place-at : (p : ℕ → Bool) (xs ys : List ℕ) (c : ℕ) → list_all (λ b. not (p b)) xs ≡ true → p c ≡ true
+    → position_or_len p (xs ++ (c ∷ ys)) ≡ length xs
 place-at p xs ys c others is = run-len (λ b. not (p b)) xs ys c others (ap not is)
 
-pub before-at : (p : ℕ → Bool) (xs ys : List ℕ) (c : ℕ) → list_all (λ b. not (p b)) xs ≡ true → p c ≡ true → before_first p (xs ++ (c ∷ ys)) ≡ xs
+pub before-at : (p : ℕ → Bool) (xs ys : List ℕ) (c : ℕ) → list_all (λ b. not (p b)) xs ≡ true → p c ≡ true
+    → before_first p (xs ++ (c ∷ ys)) ≡ xs
 before-at p xs ys c others is = ap (λ n. take n (xs ++ (c ∷ ys))) (place-at p xs ys c others is) ∙ take-append_seam xs (c ∷ ys)
 
-pub after-at : (p : ℕ → Bool) (xs ys : List ℕ) (c : ℕ) → list_all (λ b. not (p b)) xs ≡ true → p c ≡ true → after_first p (xs ++ (c ∷ ys)) ≡ ys
+pub after-at : (p : ℕ → Bool) (xs ys : List ℕ) (c : ℕ) → list_all (λ b. not (p b)) xs ≡ true → p c ≡ true
+    → after_first p (xs ++ (c ∷ ys)) ≡ ys
 after-at p xs ys c others is = ap (λ n. drop (n + 1) (xs ++ (c ∷ ys))) (place-at p xs ys c others is) ∙ drop-append-add xs (c ∷ ys) 1
 
-pub there-at : (p : ℕ → Bool) (xs ys : List ℕ) (c : ℕ) → list_all (λ b. not (p b)) xs ≡ true → p c ≡ true → list_any p (xs ++ (c ∷ ys)) ≡ true
+pub there-at : (p : ℕ → Bool) (xs ys : List ℕ) (c : ℕ) → list_all (λ b. not (p b)) xs ≡ true → p c ≡ true
+    → list_any p (xs ++ (c ∷ ys)) ≡ true
 there-at p xs ys c others is = grind (arith, one_there, place-at, length-append)
 
 -- one more byte at the end
@@ -94,7 +99,8 @@ pub record Cut (line : List ℕ) (p : Parts) : Type 0 where
 pub cut-of : (p : Parts) → ArePlain p → Cut (line_of p) p
 cut-of p are =
     let blank : List ℕ = 32 ∷ [] in
-    let front : list_all (λ b. not (is_opening b)) (p.name ++ blank) ≡ true = all-append (λ b. not (is_opening b)) p.name blank (no-opening p.name are.name) refl in
+    let front : list_all (λ b. not (is_opening b)) (p.name ++ blank) ≡ true =
+    all-append (λ b. not (is_opening b)) p.name blank (no-opening p.name are.name) refl in
     let same : line_of p ≡ (p.name ++ blank) ++ (opening ∷ after_name p) = marked p.name (after_name p) in
     let rest : after_first is_opening (line_of p) ≡ p.mail ++ (closing ∷ (32 ∷ p.time)) =
     ap (λ l. after_first is_opening l) same ∙ after-at is_opening (p.name ++ blank) (after_name p) opening front refl in
@@ -109,12 +115,18 @@ cut-of p are =
     }
 
 shown-by : (line : List ℕ) (p : Parts) → Cut line p → (b : Bool) → has_identity line ≡ b → b ≡ true
-    → IsSomeAnd (cond b (Some (record { name = without_end is_blank (before_first is_opening line); mail = before_first is_closing (after_first is_opening line); date = date_parts (date_text line) })) None)
+    → IsSomeAnd (cond b (Some (record {
+      name = without_end is_blank (before_first is_opening line);
+      mail =
+          before_first is_closing (after_first is_opening line);
+      date = date_parts (date_text line);
+    })) None)
     (λ (i : IdentText). (i.name ≡ without_end is_blank p.name) × (i.mail ≡ p.mail))
 shown-by line p cut true e t = (ap (λ l. without_end is_blank l) cut.name ∙ end-more is_blank p.name 32 refl, cut.mail)
 shown-by line p cut false e t = absurd cc
 
-shown : (line : List ℕ) (p : Parts) → Cut line p → IsSomeAnd (line_parts line) (λ (i : IdentText). (i.name ≡ without_end is_blank p.name) × (i.mail ≡ p.mail))
+shown : (line : List ℕ) (p : Parts) → Cut line p
+    → IsSomeAnd (line_parts line) (λ (i : IdentText). (i.name ≡ without_end is_blank p.name) × (i.mail ≡ p.mail))
 unfolding line_parts
 shown line p cut = shown-by line p cut (has_identity line) refl cut.has
 

@@ -15,7 +15,8 @@ use Rattle.gix_signature.proofs.Written.{differs}
 abbrev parts : List ℕ → List ℕ → List ℕ → Parts
 parts name mail time = record { name = name; mail = mail; time = time }
 
-author : IsCut (codes "A U Thor <author@example.com> 1660874655 +0800") (parts (codes "A U Thor") (codes "author@example.com") (codes "1660874655 +0800"))
+author : IsCut (codes "A U Thor <author@example.com> 1660874655 +0800")
+    (parts (codes "A U Thor") (codes "author@example.com") (codes "1660874655 +0800"))
 author = record { whole = refl; allowed = refl }
 
 two_spaces : IsCut (codes "A  <a> 0 +0000") (parts (codes "A ") (codes "a") (codes "0 +0000"))
@@ -44,16 +45,29 @@ none : (name mail time : List ℕ) → are_parts (parts name mail time) ≡ fals
 none name mail time bad = no-cut _ (parts name mail time) refl bad
 
 opening_in_a_part : HasNoCut (codes "A< <a> 0") × HasNoCut (codes "A <a<b> 0") × HasNoCut (codes "A <a> 0<")
-opening_in_a_part = (none (codes "A<") (codes "a") (codes "0") refl, none (codes "A") (codes "a<b") (codes "0") refl, none (codes "A") (codes "a") (codes "0<") refl)
+opening_in_a_part = (
+  none (codes "A<") (codes "a") (codes "0") refl,
+  none (codes "A") (codes "a<b") (codes "0") refl,
+  none (codes "A") (codes "a") (codes "0<") refl,
+)
 
 closing_in_a_part : HasNoCut (codes "A> <a> 0") × HasNoCut (codes "A <a>b> 0") × HasNoCut (codes "A <a> 0>")
-closing_in_a_part = (none (codes "A>") (codes "a") (codes "0") refl, none (codes "A") (codes "a>b") (codes "0") refl, none (codes "A") (codes "a") (codes "0>") refl)
+closing_in_a_part = (
+  none (codes "A>") (codes "a") (codes "0") refl,
+  none (codes "A") (codes "a>b") (codes "0") refl,
+  none (codes "A") (codes "a") (codes "0>") refl,
+)
 
 newline_in_a_part : HasNoCut (codes "A\n <a> 0") × HasNoCut (codes "A <a\nb> 0") × HasNoCut (codes "A <a> 0\n")
-newline_in_a_part = (none (codes "A\n") (codes "a") (codes "0") refl, none (codes "A") (codes "a\nb") (codes "0") refl, none (codes "A") (codes "a") (codes "0\n") refl)
+newline_in_a_part = (
+  none (codes "A\n") (codes "a") (codes "0") refl,
+  none (codes "A") (codes "a\nb") (codes "0") refl,
+  none (codes "A") (codes "a") (codes "0\n") refl,
+)
 
 nul_in_a_part : HasNoCut (0 ∷ codes " <a> 0") × HasNoCut (codes "A <" ++ 0 ∷ codes "> 0") × HasNoCut (codes "A <a> " ++ 0 ∷ [])
-nul_in_a_part = (none (0 ∷ []) (codes "a") (codes "0") refl, none (codes "A") (0 ∷ []) (codes "0") refl, none (codes "A") (codes "a") (0 ∷ []) refl)
+nul_in_a_part =
+    (none (0 ∷ []) (codes "a") (codes "0") refl, none (codes "A") (0 ∷ []) (codes "0") refl, none (codes "A") (codes "a") (0 ∷ []) refl)
 
 -- every other byte may stand
 only_four : (c : ℕ) → c ≢ 60 → c ≢ 62 → c ≢ 10 → c ≢ 0 → is_allowed c ≡ true
@@ -82,6 +96,7 @@ bad_mail = refl
 abbrev behind_utc : Time
 behind_utc = record { seconds = pos 5; offset = negsuc 5399 }
 
-written : (line : List ℕ) → (h : IsWritten (codes "A") (codes "a") behind_utc line) → (line ≡ codes "A <a> 5 -0130") × (header_time h.text ≡ Some behind_utc)
+written : (line : List ℕ) → (h : IsWritten (codes "A") (codes "a") behind_utc line)
+    → (line ≡ codes "A <a> 5 -0130") × (header_time h.text ≡ Some behind_utc)
 unfolding header_text digits
 written line h = grind (arith)

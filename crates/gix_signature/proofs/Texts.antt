@@ -1,5 +1,6 @@
 -- Texts and their places, and what is kept of them.
-use Rattle.std.proofs.Common.{◌≡◌, ◌∙◌, ℕ, ◌+◌, ◌<◌, suc, Bool, true, false, cond, not, ◌||◌, List, [], ◌∷◌, ◌++◌, length, take, drop, refl, ap, sym, arith}
+use Rattle.std.proofs.Common.{◌≡◌, ◌∙◌, ℕ, ◌+◌, ◌<◌, suc, Bool, true, false, cond, not, ◌||◌, List, [], ◌∷◌, ◌++◌, length, take, drop, refl}
+use Rattle.std.proofs.Common.{ap, sym, arith}
 use Rattle.std.proofs.lemmas.List.{drop-drop}
 use Rattle.std.proofs.lemmas.Bool.Decides.{nat_tests}
 use Rattle.std.specs.List.{list_any, prefix_len, position_or_len, filter}
@@ -28,8 +29,10 @@ pub add-one-front : (n : ℕ) → 1 + n ≡ suc n
 add-one-front n = omega arith
 
 -- What a filter keeps is the run at the front, and what it keeps of what stands after the run and one byte.
-kept-step : (b : Bool) (p : ℕ → Bool) (x : ℕ) (xs : List ℕ) → filter p xs ≡ take (prefix_len p xs) xs ++ filter p (drop 1 (drop (prefix_len p xs) xs))
-    → cond b (x ∷ filter p xs) (filter p xs) ≡ take (cond b (1 + prefix_len p xs) 0) (x ∷ xs) ++ filter p (drop 1 (drop (cond b (1 + prefix_len p xs) 0) (x ∷ xs)))
+kept-step : (b : Bool) (p : ℕ → Bool) (x : ℕ) (xs : List ℕ)
+    → filter p xs ≡ take (prefix_len p xs) xs ++ filter p (drop 1 (drop (prefix_len p xs) xs))
+    → cond b (x ∷ filter p xs) (filter p xs) ≡ take (cond b (1 + prefix_len p xs) 0) (x ∷ xs)
+    ++ filter p (drop 1 (drop (cond b (1 + prefix_len p xs) 0) (x ∷ xs)))
 kept-step false p x xs h = refl
 kept-step true p x xs h = rw (add-one-front (prefix_len p xs)) (ap (λ ys. x ∷ ys) h)
 

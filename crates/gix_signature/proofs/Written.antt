@@ -1,5 +1,7 @@
 -- What is written of a name, a mail and a time, and how it is cut.
-use Rattle.std.proofs.Common.{◌≡◌, ◌≢◌, ℕ, ◌+◌, ◌/◌, ◌%◌, ◌^◌, ◌<◌, suc, Bool, true, false, cond, not, ◌&&◌, ◌==◌, List, [], ◌∷◌, ◌++◌, length, ℤ, pos, negsuc, Option, Some, None, Result, Ok, Err, IsSomeAnd, IfOk, OnOk, ok_or, option_map, unwrap_or, unsigned_abs, FitsSigned, w64, refl, ap, subst, arith, length-append}
+use Rattle.std.proofs.Common.{◌≡◌, ◌≢◌, ℕ, ◌+◌, ◌/◌, ◌%◌, ◌^◌, ◌<◌, suc, Bool, true, false, cond, not, ◌&&◌, ◌==◌, List, [], ◌∷◌, ◌++◌}
+use Rattle.std.proofs.Common.{length, ℤ, pos, negsuc, Option, Some, None, Result, Ok, Err, IsSomeAnd, IfOk, OnOk, ok_or, option_map}
+use Rattle.std.proofs.Common.{unwrap_or, unsigned_abs, FitsSigned, w64, refl, ap, subst, arith, length-append}
 use Rattle.std.proofs.lemmas.Bool.{and_from}
 use Rattle.std.proofs.lemmas.Bool.Decides.{nat_tests}
 use Rattle.std.proofs.lemmas.Fmt.{decimal_by_steps}
@@ -30,7 +32,8 @@ one-stands : (n : ℕ) → n < 10 → is_part ((48 + n) ∷ []) ≡ true
 one-stands n h = and_from (is_allowed (48 + n)) true (digit-stands n h) refl
 
 decimal-stands : (n : ℕ) → n < 2 ^ 64 → is_part (decimal n) ≡ true
-decimal-stands = decimal_by_steps (λ n ds. is_part ds ≡ true) one-stands (λ n ds more k. all-append is_allowed ds ((48 + n % 10) ∷ []) k (one-stands (n % 10) (omega arith)))
+decimal-stands = decimal_by_steps (λ n ds. is_part ds ≡ true) one-stands
+    (λ n ds more k. all-append is_allowed ds ((48 + n % 10) ∷ []) k (one-stands (n % 10) (omega arith)))
 
 seconds-stand : (z : ℤ) → FitsSigned w64 z → is_part (decimal_text z) ≡ true
 seconds-stand (pos n) f = decimal-stands n (omega (arith, f.sfits))
@@ -65,8 +68,10 @@ unfolding header_text
 text-is t text f e = grind (arith, text-of, nat_tests, all-append, seconds-stand, zone-stands, filled)
 
 -- What is due is cut so again.
-due-by : (name mail : List ℕ) (t : Time) → FitsSigned w64 t.seconds → (b : Bool) → (is_part name && is_part mail) ≡ b → (o : Option (List ℕ)) → header_text t ≡ o
-    → IfOk (cond b (ok_or (option_map line_of (option_map (λ text. record { name = name; mail = mail; time = text }) o)) OffsetTooWide) (Err BadPart)) (IsWritten name mail t)
+due-by : (name mail : List ℕ) (t : Time) → FitsSigned w64 t.seconds → (b : Bool) → (is_part name && is_part mail) ≡ b
+    → (o : Option (List ℕ)) → header_text t ≡ o
+    → IfOk (cond b (ok_or (option_map line_of (option_map (λ text. record { name = name; mail = mail; time = text }) o)) OffsetTooWide)
+    (Err BadPart)) (IsWritten name mail t)
 due-by name mail t f false parts o h = tt
 due-by name mail t f true parts None h = tt
 due-by name mail t f true parts (Some text) h =
@@ -74,7 +79,11 @@ due-by name mail t f true parts (Some text) h =
     record {
       text = text;
       is_text = h;
-      cut = record { whole = refl; allowed = and_from (is_part name && is_part mail && is_part text) _ (and_from (is_part name && is_part mail) _ parts is.stands) is.some };
+      cut = record {
+        whole = refl;
+        allowed =
+            and_from (is_part name && is_part mail && is_part text) _ (and_from (is_part name && is_part mail) _ parts is.stands) is.some;
+      };
       back = λ whole. subst (λ r. IsSomeAnd r (λ x. header_time x ≡ Some t)) h (written_text_is_read t f is.short whole);
     }
 
@@ -86,13 +95,15 @@ pub due-is : (name mail : List ℕ) (t : Time) → is_part name ≡ true → is_
     → line_due name mail t ≡ ok_or (option_map line_of (parts_due name mail t)) OffsetTooWide
 due-is name mail t h k = grind (arith, and_from)
 
-wrote-by : (due : Result (List ℕ) SignatureError) (Is : List ℕ → Type 0) (old new : StreamState) (r : Result (Unit {0}) SignatureError) → IfOk due Is → WritesLine due old new r
+wrote-by : (due : Result (List ℕ) SignatureError) (Is : List ℕ → Type 0) (old new : StreamState) (r : Result (Unit {0}) SignatureError)
+    → IfOk due Is → WritesLine due old new r
     → OnOk r ((line : List ℕ) × Is line × Takes old new line)
 wrote-by (Ok line) Is old new (Ok u) is h = (line, is, h)
 wrote-by (Err e) Is old new (Ok u) is h = absurd h
 wrote-by (Ok line) Is old new (Err e) is h = tt
 wrote-by (Err d) Is old new (Err e) is h = tt
 
-pub wrote : (name mail : List ℕ) (t : Time) (old new : StreamState) (r : Result (Unit {0}) SignatureError) → FitsSigned w64 t.seconds → WritesLine (line_due name mail t) old new r
+pub wrote : (name mail : List ℕ) (t : Time) (old new : StreamState) (r : Result (Unit {0}) SignatureError) → FitsSigned w64 t.seconds
+    → WritesLine (line_due name mail t) old new r
     → OnOk r ((line : List ℕ) × IsWritten name mail t line × Takes old new line)
 wrote name mail t old new r f h = wrote-by (line_due name mail t) (IsWritten name mail t) old new r (written_is_cut name mail t f) h

@@ -16,7 +16,7 @@ pub enum SignatureError {
     Write(io::ErrorKind),
 }
 
-/// Why [`crate::ident::write::write_ident`] writes no line, or [`crate::ident::time::GitTime::to_time`] makes no time.
+/// Why [`crate::lines::write_ident`] writes no line, or [`crate::ident::GitTime::to_time`] makes no time.
 #[derive(Debug, Drop, Error)]
 pub enum IdentFault {
     /// The name or the email holds NUL, at which a text ends for Git.

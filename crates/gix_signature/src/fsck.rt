@@ -8,7 +8,7 @@ use crate::ident::bytes::{
     after_first, after_one, are_digits, begins_with, begins_with_sign, bracket_place, has_nul,
     last_spaces_len, place_of,
 };
-use crate::ident::time::{TOO_MANY_SECONDS, c_number};
+use crate::ident::{TOO_MANY_SECONDS, c_number};
 
 /// A message of `git fsck`, named as its ID there.
 #[derive(Debug, Clone, Copy, PartialEq, Eq)]

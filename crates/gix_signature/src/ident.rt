@@ -1,15 +1,18 @@
 //! Identity lines of commits and tags, in the parts that Git shows.
-ghost use Rattle.std.specs.Prelude.{◌≡◌, option_map};
+ghost use Rattle.std.specs.Prelude.{◌≡◌, option_map, ◌≤◌, ◌≤ℤ◌, min, pos, int_lt, if◌then◌else◌, length, IfSome};
 ghost use Rattle.gix_signature.specs as Spec;
+ghost use Rattle.std.specs.Char.{digit_value};
+ghost use Rattle.std.specs.Str.Parse.{digits_value, signed_digits_value};
+ghost use Rattle.gix_date.specs as GixDate;
 
 pub(crate) mod bytes;
-pub mod time;
-pub mod write;
 
+use crate::error::IdentFault;
 use bytes::{
     after_one, begins_with_digit, begins_with_sign, blanks_len, cut_at, digits_len,
-    last_blanks_len, line_len, place_of, tail_len,
+    last_blanks_len, line_len, place_of, tail_len, white_len,
 };
+use gix_date::Time;
 
 /// The parts of an identity line that Git shows, each the slice of the text at its place.
 #[derive(Debug, Clone, Copy)]
@@ -130,4 +133,174 @@ fn begins_with_offset(text: &[u8]) -> bool
     ensures { result ≡ Spec.begins_with_offset text.now }
 {
     begins_with_sign(text) && begins_with_digit(after_one(text))
+}
+
+/// From so many seconds on Git shows none: 2^63.
+pub(crate) const TOO_MANY_SECONDS: u64 = 9_223_372_036_854_775_808;
+
+/// How many numbers 64 bits hold: 2^64.
+const NUMBERS_OF_64_BITS: u128 = 18_446_744_073_709_551_616;
+
+/// The widest offset, in minutes, whose seconds an `i32` holds.
+const WIDEST_MINUTES: u32 = 35_791_394;
+
+/// A time as Git keeps it of an identity line.
+#[derive(Debug, Clone, Copy)]
+pub struct GitTime {
+    /// Seconds since the epoch: of a line from 0.
+    pub seconds: i64,
+    /// The offset as one decimal number, hours before the last two digits, minutes in them: `+0530` is 530.
+    pub offset: i32,
+}
+
+impl GitTime {
+    /// The time of these seconds, with the offset in seconds. Minutes may be 60 and more: `+0060` is an hour.
+    ///
+    /// [`IdentFault::OffsetTooWide`] if the offset is more than 35791394 minutes, either way.
+    #[tactic(auto, unfolding(crate::specs::time_of_git))]
+    pub fn to_time(self) -> Result<Time, IdentFault>
+        ensures { result ≡ Spec.time_of_git self }
+    {
+        let size = self.offset.unsigned_abs();
+        let minutes = size / 100 * 60 + size % 100;
+        if WIDEST_MINUTES < minutes {
+            return Err(IdentFault::OffsetTooWide);
+        }
+        let offset = (60 * minutes) as i32;
+        let offset = if self.offset < 0 { -offset } else { offset };
+        Ok(Time {
+            seconds: self.seconds,
+            offset,
+        })
+    }
+}
+
+impl DateParts<'_> {
+    /// The time that Git shows of a date. From 2^63 seconds on, seconds and offset are 0. An offset whose decimal number
+    /// is below -2147483647 or above 2147483646 is 0.
+    #[tactic(auto, unfolding(crate::specs::git_time))]
+    pub fn git_time(self) -> GitTime
+        ensures { result ≡ Spec.git_time (Spec.date_text_of self.entry) }
+    {
+        match seconds_of(self.seconds) {
+            Some(seconds) => GitTime {
+                seconds,
+                offset: git_offset(self.offset),
+            },
+            None => GitTime {
+                seconds: 0,
+                offset: 0,
+            },
+        }
+    }
+}
+
+/// The seconds that digits write, if they are less than 2^63.
+fn seconds_of(digits: &[u8]) -> Option<i64>
+    ensures { result ≡ Spec.seconds_shown (digits_value 10 digits.now) }
+{
+    match number(digits) {
+        Some(n) if n < TOO_MANY_SECONDS => Some(n as i64),
+        _ => None,
+    }
+}
+
+/// The offset that Git keeps of a sign and digits.
+fn git_offset(text: &[u8]) -> i32
+    ensures { result ≡ Spec.kept_offset (signed_digits_value 10 text.now) }
+{
+    match text {
+        [b'-', digits @ ..] => -number_to(2_147_483_647, digits),
+        [b'+', digits @ ..] => number_to(2_147_483_646, digits),
+        digits => number_to(2_147_483_646, digits),
+    }
+}
+
+/// The number that digits write, or 0 if it is more than a limit.
+fn number_to(most: i32, digits: &[u8]) -> i32
+    requires { pos 0 ≤ℤ most }
+    ensures within { pos 0 ≤ℤ result }
+    ensures value { result ≡ (if int_lt most (pos (digits_value 10 digits.now)) then pos 0 else pos (digits_value 10 digits.now)) }
+{
+    match number(digits) {
+        Some(n) if n <= most as u64 => n as i32,
+        _ => 0,
+    }
+}
+
+/// The number that digits write, if 64 bits hold it. Takes no memory.
+pub fn number(digits: &[u8]) -> Option<u64>
+    ensures { result ≡ Spec.held_number (digits_value 10 digits.now) }
+{
+    u64::try_from(counted(digits)).ok()
+}
+
+/// The number that digits write, or 2^64 if it is more.
+#[tactic(auto, using(std::proofs::lemmas::Int::Digits::digits_value_more))]
+fn counted(digits: &[u8]) -> u128
+    ensures { result ≡ min (digits_value 10 digits.now) Spec.numbers_of_64_bits }
+{
+    let mut value = 0u128;
+    for digit in digits {
+        value = (10 * value + u128::from(digit_value(*digit))).min(NUMBERS_OF_64_BITS);
+    }
+    value
+}
+
+/// The value of a digit. Bytes that are no digits have some value from 10.
+fn digit_value(byte: u8) -> u8
+    ensures value { result ≡ digit_value byte }
+    ensures small { result ≤ 36 }
+{
+    match byte {
+        b'0'..=b'9' => byte - b'0',
+        b'A'..=b'Z' => byte - b'A' + 10,
+        b'a'..=b'z' => byte - b'a' + 10,
+        _ => 36,
+    }
+}
+
+/// The number that C reads at the front of a text, and what stands after it.
+#[tactic(auto, unfolding(crate::specs::c_number))]
+pub(crate) fn c_number(text: &[u8]) -> Option<(u64, &[u8])>
+    ensures value { GixDate.read_view result ≡ Spec.c_number text.now }
+    ensures within { IfSome result (λ found. length found.1.now ≤ length text.now) }
+{
+    number_at_front(&text[white_len(text)..])
+}
+
+/// The number from its sign on.
+fn number_at_front(text: &[u8]) -> Option<(u64, &[u8])>
+    ensures value { GixDate.read_view result ≡ Spec.number_at_front text.now }
+    ensures within { IfSome result (λ found. length found.1.now ≤ length text.now) }
+{
+    let digits = without_sign(text);
+    if !begins_with_digit(digits) {
+        return None;
+    }
+    let (digits, rest) = digits.split_at(digits_len(digits));
+    Some((c_value(matches!(text, [b'-', ..]), digits), rest))
+}
+
+/// What 64 bits keep of digits, after a minus or not.
+fn c_value(is_negated: bool, digits: &[u8]) -> u64
+    ensures { result ≡ Spec.c_value is_negated (digits_value 10 digits.now) }
+{
+    match number(digits) {
+        Some(n) if is_negated => n.wrapping_neg(),
+        Some(n) => n,
+        None => u64::MAX,
+    }
+}
+
+/// A text without a sign at its front.
+fn without_sign(text: &[u8]) -> &[u8]
+    ensures value { result.now ≡ Spec.without_sign text.now }
+    ensures within { length result.now ≤ length text.now }
+{
+    if begins_with_sign(text) {
+        after_one(text)
+    } else {
+        text
+    }
 }

@@ -1,5 +1,6 @@
 -- Lines at the front of bytes that are headers.
-use Rattle.std.proofs.Common.{◌≡◌, ◌≢◌, ◌∙◌, ℕ, ◌+◌, ◌≤◌, Bool, true, false, List, [], ◌∷◌, ◌++◌, length, drop, get_or, refl, sym, ap, append_assoc, length-append, arith, IsAscii, codes}
+use Rattle.std.proofs.Common.{◌≡◌, ◌≢◌, ◌∙◌, ℕ, ◌+◌, ◌≤◌, Bool, true, false, List, [], ◌∷◌, ◌++◌, length, drop, get_or, refl, sym, ap}
+use Rattle.std.proofs.Common.{append_assoc, length-append, arith, IsAscii, codes}
 use Rattle.std.proofs.lemmas.Bool.{and_parts}
 use Rattle.std.proofs.lemmas.Bool.Decides.{nat_tests}
 use Rattle.std.proofs.lemmas.List.Elements.{All-append, All-cons, All-nil}
@@ -15,7 +16,8 @@ use Rattle.streams.specs.Lines.{IsLine, with_newline}
 use Rattle.streams.specs.Usual.{BeginsWithHeader, BeginsWithUnknown}
 
 -- digits, few and the first no zero, are seconds
-pub few_are_seconds : (ds : List ℕ) → 1 ≤ length ds → length ds ≤ 16 → list_all is_ascii_digit ds ≡ true → get_or ds 0 0 ≢ 48 → are_usual_seconds ds ≡ true
+pub few_are_seconds : (ds : List ℕ) → 1 ≤ length ds → length ds ≤ 16 → list_all is_ascii_digit ds ≡ true → get_or ds 0 0 ≢ 48
+    → are_usual_seconds ds ≡ true
 unfolding are_usual_seconds
 few_are_seconds [] some few digits first = absurd (omega arith)
 few_are_seconds (d ∷ ds) some few digits first =
@@ -51,17 +53,21 @@ offset-line x s a b c d h =
     let sign : Bool = (s == plus) || (s == minus) && not ((a == digit_zero) && (b == digit_zero)) in
     let parts = and_parts ((x == space) && are_hours_and_minutes a b c d) sign h in
     let marked = and_parts (x == space) (are_hours_and_minutes a b c d) parts.0 in
-    let last = and_parts (is_ascii_digit a && is_ascii_digit b && is_ascii_digit c && nat_lt c (digit_zero + 6)) (is_ascii_digit d) marked.1 in
+    let last =
+    and_parts (is_ascii_digit a && is_ascii_digit b && is_ascii_digit c && nat_lt c (digit_zero + 6)) (is_ascii_digit d) marked.1 in
     let third = and_parts (is_ascii_digit a && is_ascii_digit b && is_ascii_digit c) (nat_lt c (digit_zero + 6)) last.0 in
     let more = and_parts (is_ascii_digit a && is_ascii_digit b) (is_ascii_digit c) third.0 in
     let two = and_parts (is_ascii_digit a) (is_ascii_digit b) more.0 in
     let P : ℕ → Type 0 = λ n. n ≢ newline in
     let blank : x ≢ newline = grind (arith, nat_tests, marked.0) in
-    All-cons P x (s ∷ a ∷ b ∷ c ∷ d ∷ []) blank (All-cons P s (a ∷ b ∷ c ∷ d ∷ []) (sign-line s a b parts.1) (All-cons P a (b ∷ c ∷ d ∷ []) (no-newline a two.0)
-    (All-cons P b (c ∷ d ∷ []) (no-newline b two.1) (All-cons P c (d ∷ []) (no-newline c more.1) (All-cons P d [] (no-newline d last.1) (All-nil P))))))
+    All-cons P x (s ∷ a ∷ b ∷ c ∷ d ∷ []) blank
+    (All-cons P s (a ∷ b ∷ c ∷ d ∷ []) (sign-line s a b parts.1) (All-cons P a (b ∷ c ∷ d ∷ []) (no-newline a two.0)
+    (All-cons P b (c ∷ d ∷ []) (no-newline b two.1)
+    (All-cons P c (d ∷ []) (no-newline c more.1) (All-cons P d [] (no-newline d last.1) (All-nil P))))))
 
 -- seven bytes, and those after them
-pub seven : (r : List ℕ) → 7 ≤ length r → r ≡ get_or r 0 0 ∷ get_or r 1 0 ∷ get_or r 2 0 ∷ get_or r 3 0 ∷ get_or r 4 0 ∷ get_or r 5 0 ∷ get_or r 6 0 ∷ drop 7 r
+pub seven : (r : List ℕ) → 7 ≤ length r
+    → r ≡ get_or r 0 0 ∷ get_or r 1 0 ∷ get_or r 2 0 ∷ get_or r 3 0 ∷ get_or r 4 0 ∷ get_or r 5 0 ∷ get_or r 6 0 ∷ drop 7 r
 seven (x ∷ s ∷ a ∷ b ∷ c ∷ d ∷ e ∷ r) h = refl
 seven [] h = absurd (omega arith)
 seven (x ∷ []) h = absurd (omega arith)
@@ -72,7 +78,8 @@ seven (x ∷ s ∷ a ∷ b ∷ c ∷ []) h = absurd (omega arith)
 seven (x ∷ s ∷ a ∷ b ∷ c ∷ d ∷ []) h = absurd (omega arith)
 
 -- seconds, an offset and a newline are a line at the front
-pub header-line : (bytes seconds after : List ℕ) (x s a b c d : ℕ) → bytes ≡ seconds ++ (x ∷ s ∷ a ∷ b ∷ c ∷ d ∷ newline ∷ after) → are_usual_seconds seconds ≡ true
+pub header-line : (bytes seconds after : List ℕ) (x s a b c d : ℕ) → bytes ≡ seconds ++ (x ∷ s ∷ a ∷ b ∷ c ∷ d ∷ newline ∷ after)
+    → are_usual_seconds seconds ≡ true
     → length seconds ≤ 16 → is_usual_offset (x ∷ s ∷ a ∷ b ∷ c ∷ d ∷ []) ≡ true → BeginsWithHeader bytes after
 header-line bytes seconds after x s a b c d e h few k =
     let offset = x ∷ s ∷ a ∷ b ∷ c ∷ d ∷ [] in
@@ -82,18 +89,22 @@ header-line bytes seconds after x s a b c d e h few k =
       line = line;
       whole = e ∙ sym cut;
       is_line = All-append (λ n. n ≢ newline) seconds offset (seconds-line seconds h) (offset-line x s a b c d k);
-      is_canonical = usual_canonical line seconds offset (length seconds) (sym (take-append_seam seconds offset)) (sym (drop-append_seam seconds offset)) h k;
+      is_canonical = usual_canonical line seconds offset (length seconds) (sym (take-append_seam seconds offset))
+          (sym (drop-append_seam seconds offset)) h k;
       is_short = omega (arith, length-append seconds offset, few);
     }
 
 zero-line : IsLine (codes " -0000")
 zero-line =
     let P : ℕ → Type 0 = λ n. n ≢ newline in
-    All-cons P 32 (codes "-0000") (λ e. omega arith) (All-cons P 45 (codes "0000") (λ e. omega arith) (All-cons P 48 (codes "000") (λ e. omega arith)
-    (All-cons P 48 (codes "00") (λ e. omega arith) (All-cons P 48 (codes "0") (λ e. omega arith) (All-cons P 48 [] (λ e. omega arith) (All-nil P))))))
+    All-cons P 32 (codes "-0000") (λ e. omega arith)
+    (All-cons P 45 (codes "0000") (λ e. omega arith) (All-cons P 48 (codes "000") (λ e. omega arith)
+    (All-cons P 48 (codes "00") (λ e. omega arith)
+    (All-cons P 48 (codes "0") (λ e. omega arith) (All-cons P 48 [] (λ e. omega arith) (All-nil P))))))
 
 -- seconds, the unknown offset and a newline are a line at the front
-pub zero-header : (bytes seconds after : List ℕ) (x s a b c d : ℕ) → bytes ≡ seconds ++ (x ∷ s ∷ a ∷ b ∷ c ∷ d ∷ newline ∷ after) → are_usual_seconds seconds ≡ true
+pub zero-header : (bytes seconds after : List ℕ) (x s a b c d : ℕ) → bytes ≡ seconds ++ (x ∷ s ∷ a ∷ b ∷ c ∷ d ∷ newline ∷ after)
+    → are_usual_seconds seconds ≡ true
     → length seconds ≤ 16 → x ∷ s ∷ a ∷ b ∷ c ∷ d ∷ [] ≡ codes " -0000" → BeginsWithUnknown bytes seconds after
 zero-header bytes seconds after x s a b c d e h few k =
     let offset = x ∷ s ∷ a ∷ b ∷ c ∷ d ∷ [] in

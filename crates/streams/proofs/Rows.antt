@@ -15,10 +15,16 @@ six = All-cons (λ b. b ≢ newline) 54 [] (λ e. omega (arith, e)) empty
 
 -- `5`, and a carriage return, which ends no line
 five-return : IsLine (53 ∷ 13 ∷ [])
-five-return = All-cons (λ b. b ≢ newline) 53 (13 ∷ []) (λ e. omega (arith, e)) (All-cons (λ b. b ≢ newline) 13 [] (λ e. omega (arith, e)) empty)
+five-return =
+    All-cons (λ b. b ≢ newline) 53 (13 ∷ []) (λ e. omega (arith, e)) (All-cons (λ b. b ≢ newline) 13 [] (λ e. omega (arith, e)) empty)
 
 two-ended : Splits (codes "5" ++ newline ∷ codes "6" ++ newline ∷ []) (codes "5" ∷ codes "6" ∷ []) []
-two-ended = record { whole = refl; each = All-cons IsLine (codes "5") (codes "6" ∷ []) five (All-cons IsLine (codes "6") [] six (All-nil IsLine)); rest_is_line = empty }
+two-ended = record {
+  whole = refl;
+  each =
+      All-cons IsLine (codes "5") (codes "6" ∷ []) five (All-cons IsLine (codes "6") [] six (All-nil IsLine));
+  rest_is_line = empty;
+}
 
 one-open : Splits (codes "5" ++ newline ∷ codes "6") (codes "5" ∷ []) (codes "6")
 one-open = record { whole = refl; each = All-cons IsLine (codes "5") [] five (All-nil IsLine); rest_is_line = six }

@@ -1,7 +1,8 @@
 -- What was read and served, piece by piece.
 use Rattle.std.proofs.lemmas.Bool.Decides.{nat_tests}
 use Rattle.std.proofs.lemmas.Grind.{common_steps}
-use Rattle.std.proofs.Common.{◌≡◌, ◌≢◌, true, false, inl, inr, ℕ, ◌+◌, ◌≤◌, List, [], ◌∷◌, ◌++◌, length, refl, sym, ap, ◌∙◌, subst, append_assoc, append-nil, length-append, arith, Option, None, Some, Result, Ok, Err}
+use Rattle.std.proofs.Common.{◌≡◌, ◌≢◌, true, false, inl, inr, ℕ, ◌+◌, ◌≤◌, List, [], ◌∷◌, ◌++◌, length, refl, sym, ap, ◌∙◌, subst}
+use Rattle.std.proofs.Common.{append_assoc, append-nil, length-append, arith, Option, None, Some, Result, Ok, Err}
 use Rattle.std.proofs.lemmas.List.Elements.{All-append, All-nil, All-cons}
 use Rattle.std.specs.Prelude.{All, OnOk}
 use Rattle.std.specs.Io.KnownBytes.{Keeps, Consumes}
@@ -22,7 +23,8 @@ pub Consumes-nil : (known : Option (List ℕ)) → Consumes known known []
 Consumes-nil None = tt
 Consumes-nil (Some xs) = refl
 
-pub Consumes-append : (old mid new : Option (List ℕ)) (xs ys : List ℕ) → Consumes old mid xs → Consumes mid new ys → Consumes old new (xs ++ ys)
+pub Consumes-append : (old mid new : Option (List ℕ)) (xs ys : List ℕ) → Consumes old mid xs → Consumes mid new ys
+    → Consumes old new (xs ++ ys)
 Consumes-append None mid new xs ys h k = tt
 Consumes-append (Some us) None new xs ys h k = absurd h
 Consumes-append (Some us) (Some vs) None xs ys h k = absurd k
@@ -41,7 +43,8 @@ pub record HasRead {S : Type 0} (serves : ServesLines S) (first s : Stage S) (re
   pub took : TakesIn serves first s input (Ok tt)
 
 -- nothing was read
-pub HasRead-first : {S : Type 0} {serves : ServesLines S} (most : ℕ) (o : Held) (v : Service S) (reader : StreamState) → serves v v [] (Ok tt) → o ≡ first_held most
+pub HasRead-first : {S : Type 0} {serves : ServesLines S} (most : ℕ) (o : Held) (v : Service S) (reader : StreamState)
+    → serves v v [] (Ok tt) → o ≡ first_held most
     → HasRead serves (stage (first_held most) v) (stage o v) (change reader reader)
 HasRead-first {serves = serves} most o v reader stays fresh = record {
   input = [];
@@ -53,22 +56,27 @@ HasRead-first {serves = serves} most o v reader stays fresh = record {
 }
 
 -- the same bytes with none beyond
-with_none : {S : Type 0} {serves : ServesLines S} {first s : Stage S} (input : List ℕ) (r : Result (Unit {0}) Stop) → TakesIn serves first s (input ++ []) r
+with_none : {S : Type 0} {serves : ServesLines S} {first s : Stage S} (input : List ℕ) (r : Result (Unit {0}) Stop)
+    → TakesIn serves first s (input ++ []) r
     → TakesIn serves first s input r
 with_none {serves = serves} {first = first} {s = s} input r h = subst (λ bytes. TakesIn serves first s bytes r) (append-nil input) h
 
 -- what waited was written
-pub HasRead-settled : {S : Type 0} {serves : ServesLines S} {first s : Stage S} {reading : Change} (v : Service S) → Joins serves → HasRead serves first s reading
+pub HasRead-settled : {S : Type 0} {serves : ServesLines S} {first s : Stage S} {reading : Change} (v : Service S) → Joins serves
+    → HasRead serves first s reading
     → serves s.service v [] (Ok tt) → HasRead serves first (stage s.held v) reading
 HasRead-settled {s = s} v joins h k = record {
   input = h.input;
   read = h.read;
-  took = with_none h.input (Ok tt) (TakesIn-then (stage s.held v) [] (Ok tt) joins h.took (TakesIn-settled (Ok tt) h.took.takes.to.ready k));
+  took =
+      with_none h.input (Ok tt) (TakesIn-then (stage s.held v) [] (Ok tt) joins h.took (TakesIn-settled (Ok tt) h.took.takes.to.ready k));
 }
 
 -- a piece was read and taken in
-pub HasRead-taken : {S : Type 0} {serves : ServesLines S} {first s s' : Stage S} {old mid : StreamState} (new : StreamState) {bytes : List ℕ} → Joins serves
-    → HasRead serves first s (change old mid) → Gives mid new bytes → TakesIn serves s s' bytes (Ok tt) → HasRead serves first s' (change old new)
+pub HasRead-taken : {S : Type 0} {serves : ServesLines S} {first s s' : Stage S} {old mid : StreamState} (new : StreamState)
+    {bytes : List ℕ} → Joins serves
+    → HasRead serves first s (change old mid) → Gives mid new bytes → TakesIn serves s s' bytes (Ok tt)
+    → HasRead serves first s' (change old new)
 HasRead-taken {s' = s'} {old = old} {mid = mid} new {bytes = bytes} joins h read k = record {
   input = h.input ++ bytes;
   read = Consumes-append old.bytes mid.bytes new.bytes h.input bytes h.read read;
@@ -80,37 +88,62 @@ abbrev pub RanBut : {S : Type 0} → ServesLines S → Stage S → Service S →
 RanBut serves first v reading ended = Ran (serves first.service v) (Unit {0}) first.held.most reading ended
 
 -- the run ends within what was read
-pub ran_within : {S : Type 0} {serves : ServesLines S} (most : ℕ) (u : Service S) (s : Stage S) (reading : Change) (input : List ℕ) (stop : Stop) → Gives reading.old reading.new input
+pub ran_within : {S : Type 0} {serves : ServesLines S} (most : ℕ) (u : Service S) (s : Stage S) (reading : Change) (input : List ℕ)
+    (stop : Stop) → Gives reading.old reading.new input
     → TakesIn serves (stage (first_held most) u) s input (Err stop) → RanBut serves (stage (first_held most) u) s.service reading (Err stop)
 ran_within most u s reading input (Serving fault) read h =
-    record { reached = record { input = input; part = h.takes.part; due = h.takes.part.lines }; read = read; ends = inl refl; served = h.served; settled = tt }
+    record {
+      reached = record { input = input; part = h.takes.part; due = h.takes.part.lines };
+      read = read;
+      ends = inl refl;
+      served =
+          h.served;
+      settled = tt;
+    }
 ran_within most u s reading input (Reading (errors.Read kind)) read h = absurd h.takes.to
 ran_within most u s reading input (Reading (errors.Write kind)) read h = absurd h.takes.to
 ran_within most u s reading input (Reading errors.Memory) read h = record {
   reached = record { input = input; part = h.takes.part; due = h.takes.part.lines };
   read = read;
-  ends = record { ended = refl; short = h.takes.short; stops = subst (λ n. StopsAt most errors.Memory n h.takes.part.rest h.takes.part.beyond) (omega arith) h.takes.to };
+  ends = record {
+    ended = refl;
+    short = h.takes.short;
+    stops =
+        subst (λ n. StopsAt most errors.Memory n h.takes.part.rest h.takes.part.beyond) (omega arith) h.takes.to;
+  };
   served = h.served;
   settled = tt;
 }
 ran_within most u s reading input (Reading errors.LineTooLong) read h = record {
   reached = record { input = input; part = h.takes.part; due = h.takes.part.lines };
   read = read;
-  ends = record { ended = refl; short = h.takes.short; stops = subst (λ n. StopsAt most errors.LineTooLong n h.takes.part.rest h.takes.part.beyond) (omega arith) h.takes.to };
+  ends = record {
+    ended = refl;
+    short = h.takes.short;
+    stops =
+        subst (λ n. StopsAt most errors.LineTooLong n h.takes.part.rest h.takes.part.beyond) (omega arith) h.takes.to;
+  };
   served = h.served;
   settled = tt;
 }
 ran_within most u s reading input (Reading errors.TooManyLines) read h = record {
   reached = record { input = input; part = h.takes.part; due = h.takes.part.lines };
   read = read;
-  ends = record { ended = refl; short = h.takes.short; stops = subst (λ n. StopsAt most errors.TooManyLines n h.takes.part.rest h.takes.part.beyond) (omega arith) h.takes.to };
+  ends = record {
+    ended = refl;
+    short = h.takes.short;
+    stops =
+        subst (λ n. StopsAt most errors.TooManyLines n h.takes.part.rest h.takes.part.beyond) (omega arith) h.takes.to;
+  };
   served = h.served;
   settled = tt;
 }
 
 -- the server refused to write what waited
-pub Ran-unsettled : {S : Type 0} {serves : ServesLines S} {most : ℕ} {u : Service S} {s : Stage S} (v : Service S) {reading : Change} (fault : ToolError) → Joins serves
-    → HasRead serves (stage (first_held most) u) s reading → serves s.service v [] (Err fault) → RanBut serves (stage (first_held most) u) v reading (Err (Serving fault))
+pub Ran-unsettled : {S : Type 0} {serves : ServesLines S} {most : ℕ} {u : Service S} {s : Stage S} (v : Service S) {reading : Change}
+    (fault : ToolError) → Joins serves
+    → HasRead serves (stage (first_held most) u) s reading → serves s.service v [] (Err fault)
+    → RanBut serves (stage (first_held most) u) v reading (Err (Serving fault))
 Ran-unsettled {most = most} {u = u} {s = s} v {reading = reading} fault joins h k =
     let stop = Serving fault in
     let s' = stage s.held v in
@@ -118,7 +151,8 @@ Ran-unsettled {most = most} {u = u} {s = s} v {reading = reading} fault joins h 
     (with_none h.input (Err stop) (TakesIn-then s' [] (Err stop) joins h.took (TakesIn-settled (Err fault) h.took.takes.to.ready k)))
 
 -- a piece was read, and the run ends within it
-pub Ran-stopped : {S : Type 0} {serves : ServesLines S} {most : ℕ} {u : Service S} {s : Stage S} (s' : Stage S) {old mid : StreamState} (new : StreamState) (bytes : List ℕ) (stop : Stop) → Joins serves
+pub Ran-stopped : {S : Type 0} {serves : ServesLines S} {most : ℕ} {u : Service S} {s : Stage S} (s' : Stage S) {old mid : StreamState}
+    (new : StreamState) (bytes : List ℕ) (stop : Stop) → Joins serves
     → HasRead serves (stage (first_held most) u) s (change old mid) → Gives mid new bytes → TakesIn serves s s' bytes (Err stop)
     → RanBut serves (stage (first_held most) u) s'.service (change old new) (Err stop)
 Ran-stopped {most = most} {u = u} s' {old = old} {mid = mid} new bytes stop joins h read k =
@@ -134,16 +168,20 @@ room_for_last n most [] few none = omega arith
 room_for_last n most (b ∷ bs) few none = grind (arith)
 
 -- what was read is within the limits
-within : {S : Type 0} {serves : ServesLines S} {most : ℕ} {u : Service S} {s : Stage S} {input : List ℕ} (took : TakesIn serves (stage (first_held most) u) s input (Ok tt))
+within : {S : Type 0} {serves : ServesLines S} {most : ℕ} {u : Service S} {s : Stage S} {input : List ℕ}
+    (took : TakesIn serves (stage (first_held most) u) s input (Ok tt))
     → IsWithinLimits most (with_last_line took.takes.part)
 within {most = most} took =
     let part = took.takes.part in
     let ready = subst IsReady took.takes.to.same took.takes.to.ready in
-    let room = room_for_last (0 + length part.lines) most part.rest ready.few ready.none_after in
-    (All-append IsShort part.lines (last_line part.rest) took.takes.short (last_short part.rest ready.is_short), omega (arith, length-append part.lines (last_line part.rest), room))
+    let room = room_for_last (0 + length part.lines) most part.rest ready.few ready.none_after in (
+      All-append IsShort part.lines (last_line part.rest) took.takes.short (last_short part.rest ready.is_short),
+      omega (arith, length-append part.lines (last_line part.rest), room),
+    )
 
 -- the reader refused
-pub Ran-unread : {S : Type 0} {serves : ServesLines S} {most : ℕ} {u : Service S} {s : Stage S} {old mid : StreamState} (new : StreamState) {kind : ErrorKind}
+pub Ran-unread : {S : Type 0} {serves : ServesLines S} {most : ℕ} {u : Service S} {s : Stage S} {old mid : StreamState} (new : StreamState)
+    {kind : ErrorKind}
     → HasRead serves (stage (first_held most) u) s (change old mid) → TakesNothing mid new → new.fault ≡ Some kind
     → RanBut serves (stage (first_held most) u) s.service (change old new) (Err (Reading (errors.Read kind)))
 Ran-unread {old = old} {mid = mid} new h kept fault = record {
@@ -155,24 +193,29 @@ Ran-unread {old = old} {mid = mid} new h kept fault = record {
 }
 
 -- what was read was served, and the last line
-last_served : {S : Type 0} {serves : ServesLines S} {first s s' : Stage S} {reading : Change} (answer : Answer) → Joins serves → (h : HasRead serves first s reading)
+last_served : {S : Type 0} {serves : ServesLines S} {first s s' : Stage S} {reading : Change} (answer : Answer) → Joins serves
+    → (h : HasRead serves first s reading)
     → EndsInput serves s s' answer → serves first.service s'.service (with_last_line h.took.takes.part) answer
 last_served {serves = serves} {first = first} {s = s} {s' = s'} answer joins h k =
     let served = subst (λ o. serves s.service s'.service (last_line o.line) answer) h.took.takes.to.same k.served in
     joins first.service s.service s'.service h.took.takes.part.lines (last_line h.took.takes.part.rest) answer h.took.served served
 
 -- nothing more was read
-read_none : {S : Type 0} {serves : ServesLines S} {first s : Stage S} {old mid : StreamState} (new : StreamState) (h : HasRead serves first s (change old mid)) → Gives mid new []
+read_none : {S : Type 0} {serves : ServesLines S} {first s : Stage S} {old mid : StreamState} (new : StreamState)
+    (h : HasRead serves first s (change old mid)) → Gives mid new []
     → Gives old new h.input
 read_none {old = old} {mid = mid} new h read = grind (arith, append-nil, Consumes-append)
 
 -- the input is at its end, and the last line was served
-pub Ran-ended : {S : Type 0} {serves : ServesLines S} {most : ℕ} {u : Service S} {s : Stage S} (s' : Stage S) {old mid : StreamState} (new : StreamState) (count : ℕ) → Joins serves
-    → HasRead serves (stage (first_held most) u) s (change old mid) → Gives mid new [] → HasEnded new → new.fault ≡ None → EndsInput serves s s' (Ok tt) → count ≡ s'.held.ended
+pub Ran-ended : {S : Type 0} {serves : ServesLines S} {most : ℕ} {u : Service S} {s : Stage S} (s' : Stage S) {old mid : StreamState}
+    (new : StreamState) (count : ℕ) → Joins serves
+    → HasRead serves (stage (first_held most) u) s (change old mid) → Gives mid new [] → HasEnded new → new.fault ≡ None
+    → EndsInput serves s s' (Ok tt) → count ≡ s'.held.ended
     → RanBut serves (stage (first_held most) u) s'.service (change old new) (Ok count)
 Ran-ended {s = s} s' new count joins h read end no_fault k counted =
     let part = h.took.takes.part in
-    let last : s'.held.ended ≡ 0 + length part.lines + length (last_line part.rest) = subst (λ x. s'.held.ended ≡ x.ended + length (last_line x.line)) h.took.takes.to.same k.counted in
+    let last : s'.held.ended ≡ 0 + length part.lines + length (last_line part.rest) =
+    subst (λ x. s'.held.ended ≡ x.ended + length (last_line x.line)) h.took.takes.to.same k.counted in
     record {
       reached = record { input = h.input; part = part; due = with_last_line part };
       read = read_none new h read;
@@ -188,7 +231,8 @@ Ran-ended {s = s} s' new count joins h read end no_fault k counted =
     }
 
 -- the input is at its end, and the server refused the last line
-pub Ran-ended-unserved : {S : Type 0} {serves : ServesLines S} {most : ℕ} {u : Service S} {s : Stage S} (s' : Stage S) {old mid : StreamState} (new : StreamState) (fault : ToolError) → Joins serves
+pub Ran-ended-unserved : {S : Type 0} {serves : ServesLines S} {most : ℕ} {u : Service S} {s : Stage S} (s' : Stage S)
+    {old mid : StreamState} (new : StreamState) (fault : ToolError) → Joins serves
     → HasRead serves (stage (first_held most) u) s (change old mid) → Gives mid new [] → HasEnded new → EndsInput serves s s' (Err fault)
     → RanBut serves (stage (first_held most) u) s'.service (change old new) (Err (Serving fault))
 Ran-ended-unserved s' new fault joins h read end k = record {
@@ -200,11 +244,13 @@ Ran-ended-unserved s' new fault joins h read end k = record {
 }
 
 -- The server refused in the run.
-pub Ran-refused : (Served : List (List ℕ) → Answer → Type 0) (Settled : Type 0) (most : ℕ) (reading : Change) (ended : Result ℕ Stop) → is_refused ended ≡ true
+pub Ran-refused : (Served : List (List ℕ) → Answer → Type 0) (Settled : Type 0) (most : ℕ) (reading : Change) (ended : Result ℕ Stop)
+    → is_refused ended ≡ true
     → Ran Served (Unit {0}) most reading ended → Ran Served Settled most reading ended
 Ran-refused Served Settled most reading (Ok count) is h = absurd cc
 Ran-refused Served Settled most reading (Err (Reading fault)) is h = absurd cc
-Ran-refused Served Settled most reading (Err (Serving fault)) is h = record { reached = h.reached; read = h.read; ends = h.ends; served = h.served; settled = tt }
+Ran-refused Served Settled most reading (Err (Serving fault)) is h =
+    record { reached = h.reached; read = h.read; ends = h.ends; served = h.served; settled = tt }
 
 -- the server answered well, unless the run says otherwise
 answered : (ended : Result ℕ Stop) → is_refused ended ≡ false → answer_of ended ≡ Ok tt
@@ -213,7 +259,8 @@ answered (Err (Reading fault)) not = refl
 answered (Err (Serving fault)) not = absurd cc
 
 -- What a run comes to once what waited is written.
-pub Ran-settled : {S : Type 0} {serves : ServesLines S} (Settled : Type 0) (most : ℕ) (u v w : Service S) (reading : Change) (ended : Result ℕ Stop) → Joins serves → is_refused ended ≡ false
+pub Ran-settled : {S : Type 0} {serves : ServesLines S} (Settled : Type 0) (most : ℕ) (u v w : Service S) (reading : Change)
+    (ended : Result ℕ Stop) → Joins serves → is_refused ended ≡ false
     → Ran (serves u v) (Unit {0}) most reading ended → serves v w [] (Ok tt) → Settled → Ran (serves u w) Settled most reading ended
 Ran-settled {serves = serves} Settled most u v w reading ended joins not h k settled =
     let all = answered ended not in
@@ -228,7 +275,8 @@ Ran-settled {serves = serves} Settled most u v w reading ended joins not h k set
     }
 
 -- the lines that are due, where the server refuses what was left of them
-due_unserved : (most : ℕ) (reader : StreamState) (reached : Reached) (ended : Result ℕ Stop) → EndsAt most ended reader reached → Unserved reader reached
+due_unserved : (most : ℕ) (reader : StreamState) (reached : Reached) (ended : Result ℕ Stop) → EndsAt most ended reader reached
+    → Unserved reader reached
 due_unserved most reader reached (Ok count) h = inr (h.whole, h.all)
 due_unserved most reader reached (Err (Serving fault)) h = h
 due_unserved most reader reached (Err (Reading (errors.Read kind))) h = inl h.ended
@@ -238,8 +286,10 @@ due_unserved most reader reached (Err (Reading errors.LineTooLong)) h = inl h.en
 due_unserved most reader reached (Err (Reading errors.TooManyLines)) h = inl h.ended
 
 -- What a run comes to where the server refuses to write what waited.
-pub Ran-cut : {S : Type 0} {serves : ServesLines S} (Settled : Type 0) (most : ℕ) (u v w : Service S) (reading : Change) (ended : Result ℕ Stop) (fault : ToolError) → Joins serves
-    → is_refused ended ≡ false → Ran (serves u v) (Unit {0}) most reading ended → serves v w [] (Err fault) → Ran (serves u w) Settled most reading (Err (Serving fault))
+pub Ran-cut : {S : Type 0} {serves : ServesLines S} (Settled : Type 0) (most : ℕ) (u v w : Service S) (reading : Change)
+    (ended : Result ℕ Stop) (fault : ToolError) → Joins serves
+    → is_refused ended ≡ false → Ran (serves u v) (Unit {0}) most reading ended → serves v w [] (Err fault)
+    → Ran (serves u w) Settled most reading (Err (Serving fault))
 Ran-cut {serves = serves} Settled most u v w reading ended fault joins not h k =
     let before = subst (λ answer. serves u v h.reached.due answer) (answered ended not) h.served in
     record {

@@ -12,9 +12,11 @@ pub Splits-open : (line : List ℕ) → IsLine line → Splits line [] line
 Splits-open line h = record { whole = refl; each = All-nil IsLine; rest_is_line = h }
 
 -- a newline ends the rest
-pub Splits-newline : (input : List ℕ) (lines : List (List ℕ)) (rest : List ℕ) → Splits input lines rest → Splits (input ++ newline ∷ []) (lines ++ rest ∷ []) []
+pub Splits-newline : (input : List ℕ) (lines : List (List ℕ)) (rest : List ℕ) → Splits input lines rest
+    → Splits (input ++ newline ∷ []) (lines ++ rest ∷ []) []
 Splits-newline input lines rest h = record {
-  whole = ap with_newline h.whole ∙ append_assoc (flat_map with_newline lines) rest (newline ∷ []) ∙ flat_map_more with_newline [] lines rest
+  whole = ap with_newline h.whole ∙ append_assoc (flat_map with_newline lines) rest (newline ∷ [])
+      ∙ flat_map_more with_newline [] lines rest
       ∙ sym (append-nil (flat_map with_newline (lines ++ rest ∷ [])));
   each = All-push IsLine lines rest h.each h.rest_is_line;
   rest_is_line = All-nil (λ b. b ≢ newline);
@@ -52,10 +54,13 @@ cut_first line lines rest = append_assoc (with_newline line) (flat_map with_newl
 same_lines : (lines others : List (List ℕ)) (rest other : List ℕ) → All IsLine lines → All IsLine others → IsLine rest → IsLine other
     → flat_map with_newline lines ++ rest ≡ flat_map with_newline others ++ other → (lines ≡ others) × (rest ≡ other)
 same_lines [] [] rest other h k i j e = (refl, e)
-same_lines [] (o ∷ others) rest other h k i j e = absurd (no_newline_within o (flat_map with_newline others ++ other) rest i (sym (cut_first o others other) ∙ sym e))
-same_lines (l ∷ lines) [] rest other h k i j e = absurd (no_newline_within l (flat_map with_newline lines ++ rest) other j (sym (cut_first l lines rest) ∙ e))
+same_lines [] (o ∷ others) rest other h k i j e =
+    absurd (no_newline_within o (flat_map with_newline others ++ other) rest i (sym (cut_first o others other) ∙ sym e))
+same_lines (l ∷ lines) [] rest other h k i j e =
+    absurd (no_newline_within l (flat_map with_newline lines ++ rest) other j (sym (cut_first l lines rest) ∙ e))
 same_lines (l ∷ lines) (o ∷ others) rest other h k i j e =
-    let first = same_cut l o (flat_map with_newline lines ++ rest) (flat_map with_newline others ++ other) (All-head IsLine l lines h) (All-head IsLine o others k) (sym (cut_first l lines rest) ∙ e ∙ cut_first o others other) in
+    let first = same_cut l o (flat_map with_newline lines ++ rest) (flat_map with_newline others ++ other) (All-head IsLine l lines h)
+    (All-head IsLine o others k) (sym (cut_first l lines rest) ∙ e ∙ cut_first o others other) in
     let more = same_lines lines others rest other (All-tail IsLine l lines h) (All-tail IsLine o others k) i j first.1 in
     let front : l ≡ o = first.0 in
     let back : lines ≡ others = more.0 in
@@ -64,4 +69,5 @@ same_lines (l ∷ lines) (o ∷ others) rest other h k i j e =
 -- there is one way to split an input
 pub splits_unique : SplitsAreUnique
 unfolding SplitsAreUnique
-splits_unique input lines others rest other h k = same_lines lines others rest other h.each k.each h.rest_is_line k.rest_is_line (sym h.whole ∙ k.whole)
+splits_unique input lines others rest other h k =
+    same_lines lines others rest other h.each k.each h.rest_is_line k.rest_is_line (sym h.whole ∙ k.whole)

@@ -1,5 +1,6 @@
 -- What is taken in piece by piece.
-use Rattle.std.proofs.Common.{◌≡◌, ◌≢◌, ℕ, ◌+◌, ◌-◌, ◌<◌, ◌≤◌, List, [], ◌∷◌, ◌++◌, length, take, drop, refl, sym, ap, ◌∙◌, subst, append_assoc, append-nil, length-append, arith, Bool, true, false, Result, Ok, Err}
+use Rattle.std.proofs.Common.{◌≡◌, ◌≢◌, ℕ, ◌+◌, ◌-◌, ◌<◌, ◌≤◌, List, [], ◌∷◌, ◌++◌, length, take, drop, refl, sym, ap, ◌∙◌, subst}
+use Rattle.std.proofs.Common.{append_assoc, append-nil, length-append, arith, Bool, true, false, Result, Ok, Err}
 use Rattle.std.proofs.lemmas.Bool.Decides.{nat_tests}
 use Rattle.std.proofs.lemmas.List.{take-append-drop, length-take-le}
 use Rattle.std.proofs.lemmas.List.Concat.{flat_map-append}
@@ -43,7 +44,8 @@ after o part = record o { line = part.rest; ended = o.ended + length part.lines 
 more_ended : (n : ℕ) (lines more : List (List ℕ)) → n + length lines + length more ≡ n + length (lines ++ more)
 more_ended n lines more = omega (arith, length-append lines more)
 
-TakesTo-then : (o o' : Held) (a b : List ℕ) (r : Result (Unit {0}) Stop) (h : Part (o.line ++ a)) (k : Part (h.rest ++ b)) (none : h.beyond ≡ [])
+TakesTo-then : (o o' : Held) (a b : List ℕ) (r : Result (Unit {0}) Stop) (h : Part (o.line ++ a)) (k : Part (h.rest ++ b))
+    (none : h.beyond ≡ [])
     → TakesTo (after o h) o' k r → TakesTo o o' (Part-then o.line a b h k none) r
 unfolding Part-then
 TakesTo-then o o' a b (Ok u) h k none at = record {
@@ -51,15 +53,18 @@ TakesTo-then o o' a b (Ok u) h k none at = record {
   same = at.same ∙ ap (λ n. record o { line = k.rest; ended = n }) (more_ended o.ended h.lines k.lines);
   ready = at.ready;
 }
-TakesTo-then o o' a b (Err (Reading fault)) h k none at = subst (λ n. StopsAt o.most fault n k.rest k.beyond) (more_ended o.ended h.lines k.lines) at
+TakesTo-then o o' a b (Err (Reading fault)) h k none at =
+    subst (λ n. StopsAt o.most fault n k.rest k.beyond) (more_ended o.ended h.lines k.lines) at
 TakesTo-then o o' a b (Err (Serving fault)) h k none at = tt
 
 -- bytes that were taken in, and then more bytes, whatever came of these
-pub TakesIn-then : {S : Type 0} {serves : ServesLines S} {s0 s1 : Stage S} {a : List ℕ} (s2 : Stage S) (b : List ℕ) (r : Result (Unit {0}) Stop) → Joins serves
+pub TakesIn-then : {S : Type 0} {serves : ServesLines S} {s0 s1 : Stage S} {a : List ℕ} (s2 : Stage S) (b : List ℕ)
+    (r : Result (Unit {0}) Stop) → Joins serves
     → TakesIn serves s0 s1 a (Ok tt) → TakesIn serves s1 s2 b r → TakesIn serves s0 s2 (a ++ b) r
 unfolding Part-then
 TakesIn-then {serves = serves} {s0 = s0} {s1 = s1} {a = a} s2 b r joins h k' =
-    let k : TakesIn serves (stage (after s0.held h.takes.part) s1.service) s2 b r = subst (λ o. TakesIn serves (stage o s1.service) s2 b r) h.takes.to.same k' in
+    let k : TakesIn serves (stage (after s0.held h.takes.part) s1.service) s2 b r =
+    subst (λ o. TakesIn serves (stage o s1.service) s2 b r) h.takes.to.same k' in
     record {
       takes = record {
         part = Part-then s0.held.line a b h.takes.part k.takes.part h.takes.to.none_beyond;
@@ -85,20 +90,28 @@ Part-beyond start a b h = record {
   splits = h.splits;
 }
 
-TakesTo-beyond : (o o' : Held) (a b : List ℕ) (stop : Stop) (h : Part (o.line ++ a)) → TakesTo o o' h (Err stop) → TakesTo o o' (Part-beyond o.line a b h) (Err stop)
+TakesTo-beyond : (o o' : Held) (a b : List ℕ) (stop : Stop) (h : Part (o.line ++ a)) → TakesTo o o' h (Err stop)
+    → TakesTo o o' (Part-beyond o.line a b h) (Err stop)
 unfolding Part-beyond
 TakesTo-beyond o o' a b (Reading errors.LineTooLong) h at = at
-TakesTo-beyond o o' a b (Reading errors.TooManyLines) h at = record { all = at.all; none_begun = at.none_begun; more = omega (arith, length-append h.beyond b, at.more) }
+TakesTo-beyond o o' a b (Reading errors.TooManyLines) h at =
+    record { all = at.all; none_begun = at.none_begun; more = omega (arith, length-append h.beyond b, at.more) }
 TakesTo-beyond o o' a b (Reading errors.Memory) h at = (at.0, at.1, goes-on-more h.beyond b at.2)
 TakesTo-beyond o o' a b (Reading (errors.Read kind)) h at = at
 TakesTo-beyond o o' a b (Reading (errors.Write kind)) h at = at
 TakesTo-beyond o o' a b (Serving fault) h at = tt
 
 -- a run that stopped within some bytes stopped within more
-pub TakesIn-beyond : {S : Type 0} {serves : ServesLines S} (s s' : Stage S) (a b : List ℕ) (stop : Stop) → TakesIn serves s s' a (Err stop) → TakesIn serves s s' (a ++ b) (Err stop)
+pub TakesIn-beyond : {S : Type 0} {serves : ServesLines S} (s s' : Stage S) (a b : List ℕ) (stop : Stop) → TakesIn serves s s' a (Err stop)
+    → TakesIn serves s s' (a ++ b) (Err stop)
 unfolding Part-beyond
 TakesIn-beyond s s' a b stop h = record {
-  takes = record { part = Part-beyond s.held.line a b h.takes.part; short = h.takes.short; to = TakesTo-beyond s.held s'.held a b stop h.takes.part h.takes.to };
+  takes = record {
+    part = Part-beyond s.held.line a b h.takes.part;
+    short = h.takes.short;
+    to =
+        TakesTo-beyond s.held s'.held a b stop h.takes.part h.takes.to;
+  };
   served = h.served;
 }
 
@@ -160,7 +173,13 @@ Extends-bytes {o = o} bytes ready line short few same = subst (λ x. Extends o x
     to = record {
       none_beyond = refl;
       same = ap (λ n. record o { line = o.line ++ bytes; ended = n }) (omega arith);
-      ready = record { is_line = line_more bytes ready line; is_short = short; few = omega (arith, few); none_after = λ e. absurd (omega (arith, few, e)) };
+      ready = record {
+        is_line = line_more bytes ready line;
+        is_short = short;
+        few = omega (arith, few);
+        none_after =
+            λ e. absurd (omega (arith, few, e));
+      };
     };
   };
   none = refl;
@@ -168,7 +187,8 @@ Extends-bytes {o = o} bytes ready line short few same = subst (λ x. Extends o x
 })
 
 -- a byte stands where no line may begin any more
-pub Extends-too_many : {o : Held} (bytes : List ℕ) → IsReady o → o.ended ≡ o.most → 0 < length bytes → Extends o o bytes (Err (Reading errors.TooManyLines))
+pub Extends-too_many : {o : Held} (bytes : List ℕ) → IsReady o → o.ended ≡ o.most → 0 < length bytes
+    → Extends o o bytes (Err (Reading errors.TooManyLines))
 Extends-too_many {o = o} bytes ready all more = record {
   takes = record {
     part = untaken o.line bytes ready.is_line;
@@ -184,7 +204,8 @@ goes-on [] line long = absurd (omega (arith, long))
 goes-on (byte ∷ bytes) line long = All-head (λ b. b ≢ newline) byte bytes line
 
 -- memory was refused for bytes that the open line may have
-pub Extends-no_memory : {o : Held} (bytes : List ℕ) → IsReady o → IsLine bytes → o.ended < o.most → 0 < length bytes → length (o.line ++ bytes) ≤ MAX_LINE_LEN
+pub Extends-no_memory : {o : Held} (bytes : List ℕ) → IsReady o → IsLine bytes → o.ended < o.most → 0 < length bytes
+    → length (o.line ++ bytes) ≤ MAX_LINE_LEN
     → Extends o o bytes (Err (Reading errors.Memory))
 Extends-no_memory {o = o} bytes ready line few long short = record {
   takes = record {
@@ -203,7 +224,8 @@ Extends-too_long {o = o} bytes ready line few long =
     let n = MAX_LINE_LEN + 1 - length o.line in
     let short : length o.line ≤ MAX_LINE_LEN = ready.is_short in
     let room : n ≤ length bytes = omega (arith, length-append o.line bytes) in
-    let size : length (o.line ++ take n bytes) ≡ MAX_LINE_LEN + 1 = omega (arith, length-append o.line (take n bytes), length-take-le n bytes room) in
+    let size : length (o.line ++ take n bytes) ≡ MAX_LINE_LEN + 1 =
+    omega (arith, length-append o.line (take n bytes), length-take-le n bytes room) in
     subst (λ xs. Extends o o xs (Err (Reading errors.LineTooLong))) (take-append-drop n bytes) (record {
       takes = record {
         part = open_part o.line (take n bytes) (drop n bytes) (line_more (take n bytes) ready (All-take (λ b. b ≢ newline) n bytes line));
@@ -215,7 +237,8 @@ Extends-too_long {o = o} bytes ready line few long =
     })
 
 -- bytes were taken in that end no line, and none was served
-pub TakesIn-extended : {S : Type 0} {serves : ServesLines S} {o : Held} (o' : Held) (v : Service S) (bytes : List ℕ) (r : Result (Unit {0}) Stop) → Stays serves
+pub TakesIn-extended : {S : Type 0} {serves : ServesLines S} {o : Held} (o' : Held) (v : Service S) (bytes : List ℕ)
+    (r : Result (Unit {0}) Stop) → Stays serves
     → Extends o o' bytes r → TakesIn serves (stage o v) (stage o' v) bytes r
 TakesIn-extended {serves = serves} o' v bytes r stays h = record {
   takes = h.takes;
@@ -253,13 +276,15 @@ TakesIn-newline {s = s} (Ok u) ready few same served = record {
     to = record {
       none_beyond = refl;
       same = same;
-      ready = subst IsReady (sym same) (record { is_line = All-nil (λ b. b ≢ newline); is_short = omega arith; few = omega (arith, few); none_after = λ _. refl });
+      ready = subst IsReady (sym same)
+          (record { is_line = All-nil (λ b. b ≢ newline); is_short = omega arith; few = omega (arith, few); none_after = λ _. refl });
     };
   };
   served = served;
 }
 TakesIn-newline {s = s} (Err fault) ready few same served = record {
-  takes = record { part = ended_part s.held.line ready.is_line; short = All-cons IsShort s.held.line [] ready.is_short (All-nil IsShort); to = tt };
+  takes = record
+      { part = ended_part s.held.line ready.is_line; short = All-cons IsShort s.held.line [] ready.is_short (All-nil IsShort); to = tt };
   served = served;
 }
 
@@ -271,27 +296,37 @@ pub some_first : (bytes line after : List ℕ) → bytes ≡ (line ++ newline �
 some_first bytes line after e = omega (arith, ap length e, length-append (line ++ newline ∷ []) after, some_line line)
 
 -- a whole line was read where none stood open, whatever came of serving it
-pub TakesIn-whole : {S : Type 0} {serves : ServesLines S} {s s' : Stage S} (line : List ℕ) (answer : Answer) → Stays serves → Joins serves → s.held.line ≡ [] → IsReady s.held
-    → s.held.ended < s.held.most → IsLine line → IsShort line → OnOk answer (s'.held ≡ record s.held { line = []; ended = s.held.ended + 1 })
+pub TakesIn-whole : {S : Type 0} {serves : ServesLines S} {s s' : Stage S} (line : List ℕ) (answer : Answer) → Stays serves → Joins serves
+    → s.held.line ≡ [] → IsReady s.held
+    → s.held.ended < s.held.most → IsLine line → IsShort line
+    → OnOk answer (s'.held ≡ record s.held { line = []; ended = s.held.ended + 1 })
     → serves s.service s'.service (line ∷ []) answer → TakesIn serves s s' (line ++ newline ∷ []) (as_stop answer)
 TakesIn-whole {serves = serves} {s = s} {s' = s'} line answer stays joins none ready few is_line short same served =
     let fits = subst (λ start. IsShort (start ++ line)) (sym none) short in
     let o = record s.held { line = s.held.line ++ line } in
-    let took : TakesIn serves s (stage o s.service) line (Ok tt) = TakesIn-extended o s.service line (Ok tt) stays (Extends-bytes line ready is_line fits few refl) in
+    let took : TakesIn serves s (stage o s.service) line (Ok tt) =
+    TakesIn-extended o s.service line (Ok tt) stays (Extends-bytes line ready is_line fits few refl) in
     TakesIn-then s' (newline ∷ []) (as_stop answer) joins took
-    (TakesIn-newline answer took.takes.to.ready few same (subst (λ start. serves s.service s'.service ((start ++ line) ∷ []) answer) (sym none) served))
+    (TakesIn-newline answer took.takes.to.ready few same
+    (subst (λ start. serves s.service s'.service ((start ++ line) ∷ []) answer) (sym none) served))
 
 -- what the server knew by its bytes was taken in, and what stands after it was not
-pub TakesIn-front : {S : Type 0} {serves : ServesLines S} {s s' : Stage S} (bytes after : List ℕ) (front : Front bytes after) (fault : ToolError) → Stays serves → Joins serves → s.held.line ≡ []
-    → IsReady s.held → s.held.ended < s.held.most → serves s.service s'.service (front.line ∷ []) (Err fault) → TakesIn serves s s' bytes (Err (Serving fault))
+pub TakesIn-front : {S : Type 0} {serves : ServesLines S} {s s' : Stage S} (bytes after : List ℕ) (front : Front bytes after)
+    (fault : ToolError) → Stays serves → Joins serves → s.held.line ≡ []
+    → IsReady s.held → s.held.ended < s.held.most → serves s.service s'.service (front.line ∷ []) (Err fault)
+    → TakesIn serves s s' bytes (Err (Serving fault))
 TakesIn-front {serves = serves} {s = s} {s' = s'} bytes after front fault stays joins none ready few served =
-    let took : TakesIn serves s s' (with_newline front.line) (Err (Serving fault)) = TakesIn-whole front.line (Err fault) stays joins none ready few front.is_line front.is_short tt served in
-    subst (λ xs. TakesIn serves s s' xs (Err (Serving fault))) (sym front.whole) (TakesIn-beyond s s' (with_newline front.line) after (Serving fault) took)
+    let took : TakesIn serves s s' (with_newline front.line) (Err (Serving fault)) =
+    TakesIn-whole front.line (Err fault) stays joins none ready few front.is_line front.is_short tt served in
+    subst (λ xs. TakesIn serves s s' xs (Err (Serving fault))) (sym front.whole)
+    (TakesIn-beyond s s' (with_newline front.line) after (Serving fault) took)
 
 -- nothing was taken in, and something that was served before was written, or not
-pub TakesIn-settled : {S : Type 0} {serves : ServesLines S} {o : Held} {v v' : Service S} (answer : Answer) → IsReady o → serves v v' [] answer → TakesIn serves (stage o v) (stage o v') [] (as_stop answer)
+pub TakesIn-settled : {S : Type 0} {serves : ServesLines S} {o : Held} {v v' : Service S} (answer : Answer) → IsReady o
+    → serves v v' [] answer → TakesIn serves (stage o v) (stage o v') [] (as_stop answer)
 TakesIn-settled {o = o} (Ok u) ready h = record { takes = takes_nil ready; served = h }
-TakesIn-settled {o = o} (Err fault) ready h = record { takes = record { part = untaken o.line [] ready.is_line; short = All-nil IsShort; to = tt }; served = h }
+TakesIn-settled {o = o} (Err fault) ready h =
+    record { takes = record { part = untaken o.line [] ready.is_line; short = All-nil IsShort; to = tt }; served = h }
 
 -- bytes that are not empty by a test, and those that are
 pub some_byte : (xs : List ℕ) (b : Bool) → b ≡ (length xs == 0) → b ≡ false → 0 < length xs

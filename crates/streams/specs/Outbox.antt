@@ -4,7 +4,7 @@ use Rattle.std.specs.Borrow.{Bor}
 use Rattle.std.specs.List.{flat_map}
 use Rattle.std.specs.declared.io.ErrorKind.{ErrorKind}
 use Rattle.gix_date.specs.Devices.StreamState.{StreamState, Takes, TakesProperPrefix}
-use Rattle.streams.specs.declared.outbox.Outbox.{Outbox}
+use Rattle.streams.specs.declared.program.Outbox.{Outbox}
 
 -- what waits in an outbox
 abbrev pub waiting : Outbox → List ℕ

@@ -1,5 +1,6 @@
 -- What serving the lines of an input comes to.
-use Rattle.std.specs.Prelude.{◌≡◌, ◌⊎◌, Bool, true, false, ℕ, ◌+◌, ◌<◌, List, [], ◌∷◌, ◌++◌, length, All, Option, Some, None, Result, Ok, Err, OnOk}
+use Rattle.std.specs.Prelude.{◌≡◌, ◌⊎◌, Bool, true, false, ℕ, ◌+◌, ◌<◌, List, [], ◌∷◌, ◌++◌, length, All, Option, Some, None, Result, Ok}
+use Rattle.std.specs.Prelude.{Err, OnOk}
 use Rattle.std.specs.Borrow.{Bor}
 use Rattle.std.specs.declared.io.ErrorKind.{ErrorKind}
 use Rattle.gix_date.specs.Devices.StreamState.{StreamState, Gives, HasEnded}
@@ -131,9 +132,10 @@ is_refused (Err (Serving fault)) = true
 
 -- Exactly the lines that are due were served, or a part of them if the server refused. Served says of lines that they were, by the
 -- server's answer; once they all were, Settled holds.
-pub record Ran (Served : List (List ℕ) → Answer → Type 0) (Settled : Type 0) (most : ℕ) (reading : Change) (ended : Result ℕ Stop) : Type 0 where
-  pub reached : Reached
-  pub read : Gives reading.old reading.new reached.input
-  pub ends : EndsAt most ended reading.new reached
-  pub served : Served reached.due (answer_of ended)
-  pub settled : OnOk (answer_of ended) Settled
+pub record Ran (Served : List (List ℕ) → Answer → Type 0) (Settled : Type 0) (most : ℕ) (reading : Change) (ended : Result ℕ Stop) : Type 0
+  where
+    pub reached : Reached
+    pub read : Gives reading.old reading.new reached.input
+    pub ends : EndsAt most ended reading.new reached
+    pub served : Served reached.due (answer_of ended)
+    pub settled : OnOk (answer_of ended) Settled

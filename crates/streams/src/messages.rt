@@ -3,7 +3,7 @@ ghost use Rattle.std.specs.Prelude.{◌≡◌};
 ghost use Rattle.streams.specs as Spec;
 
 use crate::error::ToolError;
-use crate::outbox::Outbox;
+use crate::program::Outbox;
 use gix_date::device::Sink;
 use std::io::ErrorKind;
 

@@ -2,12 +2,12 @@
 
 use super::zone::HeldZone;
 use super::{text_or, FORMAT_ROOM, NO_SUCH_OPTION, OK};
-use crate::ffi::git::{self as ffi, CAge, CApproximate, CExact, CExpiry, CMode};
 use crate::ffi::{CGitTime, CZone};
 use crate::git::{
     Age, Approximate, DateError, DateKind, DateMode, Expiry, FormatFault, OwnDateError, ReadDate,
     UnknownMode, MAX_SHOWN,
 };
+use crate::git_ffi::{self as ffi, CAge, CApproximate, CExact, CExpiry, CMode};
 use crate::signature::GitTime;
 use crate::{Error, Instant, OffsetInSeconds, Time};
 

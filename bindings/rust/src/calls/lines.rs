@@ -1,7 +1,8 @@
 //! The calls that read many lines.
 
 use super::zone::HeldZone;
-use crate::ffi::{self, git as git_ffi, CCarefulOptions, CZone};
+use crate::ffi::{self, CCarefulOptions, CZone};
+use crate::git_ffi;
 use crate::lines::{Columns, Done, LineReader, Status};
 use crate::{CarefulOptions, Instant};
 

@@ -123,7 +123,10 @@ mod tests {
     #[test]
     fn each_format_has_the_number_of_the_header() {
         for (number, (name, format)) in (0..).zip(NAMED) {
-            assert!(GIX_DATE.contains(&format!("GIX_DATE_{name} = {number}")), "{name}");
+            assert!(
+                GIX_DATE.contains(&format!("GIX_DATE_{name} = {number}")),
+                "{name}"
+            );
             assert_eq!(Request::from(format), Request::Number(number));
         }
     }

@@ -1,5 +1,6 @@
 -- Seconds since 1970 and an offset, as `raw` shows them, say themselves: alone and after `@`.
-use Rattle.std.proofs.Common.{◌≡◌, ◌∙◌, ◌≤◌, ◌<◌, ◌+◌, ◌-◌, ◌*◌, ◌/◌, ◌%◌, ℕ, ℤ, pos, neg_ℤ, nat_le, Bool, true, false, cond, List, [], ◌∷◌, ◌++◌, length, take, drop, get_or, Option, Some, None, Ok, refl, ap, sym, subst, arith}
+use Rattle.std.proofs.Common.{◌≡◌, ◌∙◌, ◌≤◌, ◌<◌, ◌+◌, ◌-◌, ◌*◌, ◌/◌, ◌%◌, ℕ, ℤ, pos, neg_ℤ, nat_le, Bool, true, false, cond, List, [], ◌∷◌}
+use Rattle.std.proofs.Common.{◌++◌, length, take, drop, get_or, Option, Some, None, Ok, refl, ap, sym, subst, arith}
 use Rattle.std.specs.Char.{is_ascii_digit}
 use Rattle.std.specs.List.{fold, list_all}
 use Rattle.std.specs.Prelude.{nat_lt}
@@ -29,20 +30,23 @@ use Rattle.git_date.specs.declared.fields.Fields.{Fields}
 use Rattle.git_date.specs.declared.reader.Said.{Said}
 use Rattle.git_date.proofs.Rules.ClocksBack.{shown_of, clock-is, no-leap, known-month}
 use Rattle.git_date.proofs.Exact.FastTexts.{t, git-clock, minutes-are}
-use Rattle.git_date.proofs.Exact.PrintedClocks.{IsGitClock, pairs-number, run-before, at, go, skip-space, go-offset, offset_tokens, spaced-offset, offset_in_minutes, hours_of, is_behind, minutes_of as minutes_in}
+use Rattle.git_date.proofs.Exact.PrintedClocks.{IsGitClock, pairs-number, run-before, at, go, skip-space, go-offset, offset_tokens}
+use Rattle.git_date.proofs.Exact.PrintedClocks.{spaced-offset, offset_in_minutes, hours_of, is_behind, minutes_of as minutes_in}
 use Rattle.git_date.proofs.Exact.PrintedReads.{reads-are, sign-free}
 use Rattle.git_date.proofs.Text.StringEnds.{has_nul, no-nul, whole-said}
 use Rattle.git_date.proofs.Text.TokenRuns.{mark-first}
 
 -- two digits more
-pair-read : (v n tens ones : ℕ) (rest : List ℕ) → n ≤ 99 → two_digits n ≡ tens ∷ ones ∷ [] → fold digit_more v (tens ∷ ones ∷ rest) ≡ fold digit_more (100 * v + n) rest
+pair-read : (v n tens ones : ℕ) (rest : List ℕ) → n ≤ 99 → two_digits n ≡ tens ∷ ones ∷ []
+    → fold digit_more v (tens ∷ ones ∷ rest) ≡ fold digit_more (100 * v + n) rest
 pair-read v n tens ones rest h e =
     let first : 48 + n / 10 ≡ tens = ap (λ (digits : List ℕ). get_or digits 0 0) e in
     let second : 48 + n % 10 ≡ ones = ap (λ (digits : List ℕ). get_or digits 1 0) e in
     let both : digit_more (digit_more v tens) ones ≡ 100 * v + n = omega (arith, first, second) in
     ap (λ (value : ℕ). fold digit_more value rest) both
 
-pair-digits : (n tens ones : ℕ) (rest : List ℕ) → n ≤ 99 → two_digits n ≡ tens ∷ ones ∷ [] → list_all is_ascii_digit rest ≡ true → list_all is_ascii_digit (tens ∷ ones ∷ rest) ≡ true
+pair-digits : (n tens ones : ℕ) (rest : List ℕ) → n ≤ 99 → two_digits n ≡ tens ∷ ones ∷ [] → list_all is_ascii_digit rest ≡ true
+    → list_all is_ascii_digit (tens ∷ ones ∷ rest) ≡ true
 pair-digits n tens ones rest h e more =
     let first : 48 + n / 10 ≡ tens = ap (λ (digits : List ℕ). get_or digits 0 0) e in
     let second : 48 + n % 10 ≡ ones = ap (λ (digits : List ℕ). get_or digits 1 0) e in
@@ -51,7 +55,8 @@ pair-digits n tens ones rest h e more =
     join _ _ a (join _ _ b more)
 
 ten-digits : (text : List ℕ) (p q r s u : ℕ) → 10 ≤ length text → length text < 11 → WritesTwo 10 40 (get_or text 0 0) (get_or text 1 0) p
-    → WritesTwo 0 99 (get_or text 2 0) (get_or text 3 0) q → WritesTwo 0 99 (get_or text 4 0) (get_or text 5 0) r → WritesTwo 0 99 (get_or text 6 0) (get_or text 7 0) s
+    → WritesTwo 0 99 (get_or text 2 0) (get_or text 3 0) q → WritesTwo 0 99 (get_or text 4 0) (get_or text 5 0) r
+    → WritesTwo 0 99 (get_or text 6 0) (get_or text 7 0) s
     → WritesTwo 0 99 (get_or text 8 0) (get_or text 9 0) u → WritesSeconds text (100 * (100 * (100 * (100 * p + q) + r) + s) + u)
 unfolding number
 ten-digits (a ∷ b ∷ c ∷ d ∷ e ∷ f ∷ g ∷ h ∷ i ∷ j ∷ []) p q r s u low high v w x y z =
@@ -66,17 +71,22 @@ ten-digits (a ∷ b ∷ c ∷ d ∷ e ∷ f ∷ g ∷ h ∷ i ∷ j ∷ []) p q 
       first = omega (arith, least);
       last = omega (arith, most, most_q, most_r, most_s, most_u);
       digits = pair-digits p a b (c ∷ d ∷ e ∷ f ∷ g ∷ h ∷ i ∷ j ∷ []) first v.is (pair-digits q c d (e ∷ f ∷ g ∷ h ∷ i ∷ j ∷ []) w.most w.is
-          (pair-digits r e f (g ∷ h ∷ i ∷ j ∷ []) x.most x.is (pair-digits s g h (i ∷ j ∷ []) y.most y.is (pair-digits u i j [] z.most z.is refl))));
+          (pair-digits r e f (g ∷ h ∷ i ∷ j ∷ []) x.most x.is
+          (pair-digits s g h (i ∷ j ∷ []) y.most y.is (pair-digits u i j [] z.most z.is refl))));
       is =
           let folded =
-          pair-read 0 p a b (c ∷ d ∷ e ∷ f ∷ g ∷ h ∷ i ∷ j ∷ []) first v.is ∙ pair-read (100 * 0 + p) q c d (e ∷ f ∷ g ∷ h ∷ i ∷ j ∷ []) w.most w.is
-          ∙ pair-read _ r e f (g ∷ h ∷ i ∷ j ∷ []) x.most x.is ∙ pair-read _ s g h (i ∷ j ∷ []) y.most y.is ∙ pair-read _ u i j [] z.most z.is in
+          pair-read 0 p a b (c ∷ d ∷ e ∷ f ∷ g ∷ h ∷ i ∷ j ∷ []) first v.is
+          ∙ pair-read (100 * 0 + p) q c d (e ∷ f ∷ g ∷ h ∷ i ∷ j ∷ []) w.most w.is
+          ∙ pair-read _ r e f (g ∷ h ∷ i ∷ j ∷ []) x.most x.is ∙ pair-read _ s g h (i ∷ j ∷ []) y.most y.is
+          ∙ pair-read _ u i j [] z.most z.is in
           omega (arith, folded, most, most_q, most_r, most_s, most_u);
     }
 ten-digits text p q r s u low high v w x y z = absurd (omega (arith, low, high))
 
-pub ten_digits : (text : List ℕ) (p q r s u n : ℕ) → 10 ≤ length text → length text < 11 → WritesTwo 10 40 (get_or text 0 0) (get_or text 1 0) p
-    → WritesTwo 0 99 (get_or text 2 0) (get_or text 3 0) q → WritesTwo 0 99 (get_or text 4 0) (get_or text 5 0) r → WritesTwo 0 99 (get_or text 6 0) (get_or text 7 0) s
+pub ten_digits : (text : List ℕ) (p q r s u n : ℕ) → 10 ≤ length text → length text < 11
+    → WritesTwo 10 40 (get_or text 0 0) (get_or text 1 0) p
+    → WritesTwo 0 99 (get_or text 2 0) (get_or text 3 0) q → WritesTwo 0 99 (get_or text 4 0) (get_or text 5 0) r
+    → WritesTwo 0 99 (get_or text 6 0) (get_or text 7 0) s
     → WritesTwo 0 99 (get_or text 8 0) (get_or text 9 0) u → n ≡ 100 * (100 * (100 * (100 * p + q) + r) + s) + u → WritesSeconds text n
 ten_digits text p q r s u n low high v w x y z is = subst (WritesSeconds text) (sym is) (ten-digits text p q r s u low high v w x y z)
 
@@ -126,7 +136,8 @@ epoch-by now n run more e first last =
 
 -- its fields say its seconds, with an offset or without one
 pub epoch-says : (n : ℕ) (offset : Option ℤ) (text : List ℕ) → n < first_of_year_2100
-    → fields_said text (Ok (at (record (with_epoch unknown (shown_of (pos n))) { offset = offset }))) ≡ Ok (record { seconds = pos n; offset = offset; epoch = true; leap = false; ignored = None })
+    → fields_said text (Ok (at (record (with_epoch unknown (shown_of (pos n))) { offset = offset })))
+    ≡ Ok (record { seconds = pos n; offset = offset; epoch = true; leap = false; ignored = None })
 unfolding fields_said exact_seconds month_start
 epoch-says n offset text last =
     let fields : Fields = record (with_epoch unknown (shown_of (pos n))) { offset = offset } in
@@ -151,7 +162,8 @@ some-day = record {
 monday : 0 < 7
 monday = omega arith
 
-module _ (seconds offset_is : List ℕ) (n : ℕ) (offset : ℤ) (s : WritesSeconds seconds n) (o : WritesOffset compact_offset_text offset_is offset) where
+module _ (seconds offset_is : List ℕ) (n : ℕ) (offset : ℤ) (s : WritesSeconds seconds n)
+    (o : WritesOffset compact_offset_text offset_is offset) where
   -- some clock at this offset
   abbrev l : LocalTime
   l = t 0 (2000, 1, 1) (0, 0, 0) offset _ offset_is compact_offset_text monday some-day midnight-is o
@@ -165,7 +177,8 @@ module _ (seconds offset_is : List ℕ) (n : ℕ) (offset : ℤ) (s : WritesSeco
   spaced : tokens (space ∷ offset_is) ≡ Mark space ∷ offset_tokens l
   spaced = subst (λ (shown : List ℕ). tokens (space ∷ shown) ≡ Mark space ∷ offset_tokens l) o.is (spaced-offset l clock)
 
-  run-are : (run : List ℕ) → list_all is_ascii_digit run ≡ true → 1 ≤ number run → tokens (run ++ (space ∷ offset_is)) ≡ Digits run ∷ Mark space ∷ offset_tokens l
+  run-are : (run : List ℕ) → list_all is_ascii_digit run ≡ true → 1 ≤ number run
+      → tokens (run ++ (space ∷ offset_is)) ≡ Digits run ∷ Mark space ∷ offset_tokens l
   unfolding number
   run-are [] digits h = absurd (omega (arith, h))
   run-are (c ∷ run) digits h = run-before (c ∷ run) (space ∷ offset_is) (Mark space ∷ offset_tokens l) (omega arith) digits spaced tt
@@ -182,7 +195,8 @@ module _ (seconds offset_is : List ℕ) (n : ℕ) (offset : ℤ) (s : WritesSeco
   raw-steps : (now : Now) → steps now 40 (at unknown) (Digits seconds ∷ Mark space ∷ offset_tokens l) ≡ Ok (at fields)
   unfolding without_ending
   raw-steps now =
-      go now 39 unknown (with_epoch unknown (shown_of (pos n))) (Digits seconds) (Mark space ∷ offset_tokens l) (Mark space ∷ offset_tokens l) refl
+      go now 39 unknown (with_epoch unknown (shown_of (pos n))) (Digits seconds) (Mark space ∷ offset_tokens l)
+      (Mark space ∷ offset_tokens l) refl
       (ap ended (epoch-by now n seconds (Mark space ∷ offset_tokens l) s.is s.first s.last))
       ∙ skip-space now 38 (with_epoch unknown (shown_of (pos n))) (offset_tokens l)
       ∙ go-offset now 37 (with_epoch unknown (shown_of (pos n))) l clock
@@ -193,7 +207,8 @@ module _ (seconds offset_is : List ℕ) (n : ℕ) (offset : ℤ) (s : WritesSeco
   pub raw-says : Says (seconds ++ (space ∷ offset_is)) (said_at n offset)
   unfolding at_text
   raw-says now =
-      reads-are now (seconds ++ (space ∷ offset_is)) (Digits seconds ∷ Mark space ∷ offset_tokens l) 40 fields tokens-are (rw (sign-free (is_behind l)) refl) (omega arith) refl (raw-steps now)
+      reads-are now (seconds ++ (space ∷ offset_is)) (Digits seconds ∷ Mark space ∷ offset_tokens l) 40 fields tokens-are
+      (rw (sign-free (is_behind l)) refl) (omega arith) refl (raw-steps now)
       ∙ fields-say (seconds ++ (space ∷ offset_is))
 
   pub at-says : Says (at_sign ∷ (seconds ++ (space ∷ offset_is))) (said_at n offset)
@@ -208,14 +223,18 @@ module _ (seconds offset_is : List ℕ) (n : ℕ) (offset : ℤ) (s : WritesSeco
       ap at_text are
       ∙ at-is seconds (hours_of l) (minutes_in l) (is_behind l) (omega (arith, hours)) (omega (arith, rest))
       ∙ (λ i. Some (s.is i, minutes i)) in
-      whole-said now text (no-nul text (ap has_nul are ∙ free)) ∙ ap (λ (o : Option (ℕ × ℤ)). at_or_fields now text o) found ∙ said-is n offset instant
+      whole-said now text (no-nul text (ap has_nul are ∙ free)) ∙ ap (λ (o : Option (ℕ × ℤ)). at_or_fields now text o) found
+      ∙ said-is n offset instant
 
 pub raw_text_is : (text : List ℕ) (n : ℕ) (minutes : ℤ) → WritesRaw text (n, minutes) → Says text (said_at n minutes)
-raw_text_is text n minutes w = subst (λ (text : List ℕ). Says text (said_at n minutes)) w.is (raw-says w.seconds w.offset n minutes w.is_seconds w.is_offset)
+raw_text_is text n minutes w =
+    subst (λ (text : List ℕ). Says text (said_at n minutes)) w.is (raw-says w.seconds w.offset n minutes w.is_seconds w.is_offset)
 
-pub at_text_is : (text : List ℕ) (n : ℕ) (minutes : ℤ) → 1 ≤ length text → get_or text 0 0 ≡ at_sign → WritesRaw (take (length text - 1) (drop 1 text)) (n, minutes)
+pub at_text_is : (text : List ℕ) (n : ℕ) (minutes : ℤ) → 1 ≤ length text → get_or text 0 0 ≡ at_sign
+    → WritesRaw (take (length text - 1) (drop 1 text)) (n, minutes)
     → Says text (said_at n minutes)
 at_text_is [] n minutes some is w = absurd (omega arith)
 at_text_is (c ∷ text) n minutes some is w =
     let rest : take (length (c ∷ text) - 1) text ≡ text = take_all (length (c ∷ text) - 1) text (omega arith) in
-    subst (λ (text : List ℕ). Says text (said_at n minutes)) (λ i. sym is i ∷ (w.is ∙ rest) i) (at-says w.seconds w.offset n minutes w.is_seconds w.is_offset)
+    subst (λ (text : List ℕ). Says text (said_at n minutes)) (λ i. sym is i ∷ (w.is ∙ rest) i)
+    (at-says w.seconds w.offset n minutes w.is_seconds w.is_offset)

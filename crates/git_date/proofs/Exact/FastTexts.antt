@@ -1,5 +1,6 @@
 -- Dates as Git prints them say the fields that are written there.
-use Rattle.std.proofs.Common.{◌≡◌, ◌∙◌, ◌<◌, ◌≤◌, ◌+◌, length, get_or, [], Option, Some, IfSome, append_assoc, ℕ, ℤ, pos, ◌*ℤ◌, List, ◌∷◌, ◌++◌, ap, ap₂, sym, subst, arith, inl, inr, Ok, None, take, drop, take-append-drop}
+use Rattle.std.proofs.Common.{◌≡◌, ◌∙◌, ◌<◌, ◌≤◌, ◌+◌, length, get_or, [], Option, Some, IfSome, append_assoc, ℕ, ℤ, pos, ◌*ℤ◌, List, ◌∷◌}
+use Rattle.std.proofs.Common.{◌++◌, ap, ap₂, sym, subst, arith, inl, inr, Ok, None, take, drop, take-append-drop}
 use Rattle.std.proofs.lemmas.Fmt.{decimal_digit}
 use Rattle.jiff_core.proofs.SignedLemmas.{signed_arith}
 use Rattle.gix_date.specs.Fields.DateOffsets.{strict_offset_text}
@@ -8,15 +9,18 @@ use Rattle.gix_date.specs.Fields.Layout.{LocalTime}
 use Rattle.gix_date.specs.Fields.Offsets.{compact_offset_text}
 use Rattle.gix_date.specs.Text.Characters.{space, comma, letter_t}
 use Rattle.gix_date.specs.Text.Names.{day_name, month_name}
-use Rattle.git_date.specs.Exact.Fast.{IsGitDate, WritesTwo, WritesDate, WritesDay, WritesMailDate, WritesMailDay, WritesNamedDay, WritesClock, WritesOffset, WritesTime, WritesStrictTime, WritesYearTime, fields_in, SaysFields}
+use Rattle.git_date.specs.Exact.Fast.{IsGitDate, WritesTwo, WritesDate, WritesDay, WritesMailDate, WritesMailDay, WritesNamedDay}
+use Rattle.git_date.specs.Exact.Fast.{WritesClock, WritesOffset, WritesTime, WritesStrictTime, WritesYearTime, fields_in, SaysFields}
 use Rattle.git_date.specs.Exact.Reading.{fields_said, said_by}
 use Rattle.git_date.specs.declared.fields.Fields.{Fields}
 use Rattle.git_date.specs.declared.fields.dates.Now.{Now}
-use Rattle.git_date.proofs.Exact.PrintedClocks.{IsGitClock, IsDayText, date-mark, two-day, bare-day, at, fields_of, signed, offset_in_minutes}
+use Rattle.git_date.proofs.Exact.PrintedClocks.{IsGitClock, IsDayText, date-mark, two-day, bare-day, at, fields_of, signed}
+use Rattle.git_date.proofs.Exact.PrintedClocks.{offset_in_minutes}
 use Rattle.git_date.proofs.Exact.PrintedReads.{minutes-back, iso-reads, strict-reads, mail-reads, default-reads}
 
 -- the clock of these: a text that is printed of it says them
-module _ (weekday : ℕ) (date clock : ℕ × ℕ × ℕ) (offset : ℤ) (clock_is offset_is : List ℕ) (show : ℤ → List ℕ) (is_weekday : weekday < 7) (d : IsGitDate date)
+module _ (weekday : ℕ) (date clock : ℕ × ℕ × ℕ) (offset : ℤ) (clock_is offset_is : List ℕ) (show : ℤ → List ℕ) (is_weekday : weekday < 7)
+    (d : IsGitDate date)
     (c : WritesClock clock_is clock) (o : WritesOffset show offset_is offset) where
   abbrev pub t : LocalTime
   t = record {
@@ -48,7 +52,8 @@ module _ (weekday : ℕ) (date clock : ℕ × ℕ × ℕ) (offset : ℤ) (clock_
         known = λ behind one. o.known (sym minutes-are ∙ ap₂ signed behind one);
       }
 
-  says : (text shown : List ℕ) → ((now : Now) → said_by now shown ≡ fields_said shown (Ok (at (fields_of t)))) → shown ≡ text → SaysFields text (fields_in date clock offset)
+  says : (text shown : List ℕ) → ((now : Now) → said_by now shown ≡ fields_said shown (Ok (at (fields_of t)))) → shown ≡ text
+      → SaysFields text (fields_in date clock offset)
   says text shown reads same now =
       subst (λ (text : List ℕ). said_by now text ≡ fields_said text (Ok (at (fields_in date clock offset)))) same
       (reads now ∙ ap (λ (m : ℤ). fields_said shown (Ok (at (fields_in date clock m)))) minutes-are)
@@ -64,12 +69,17 @@ made_says text f made is says now = says now ∙ sym (ap (λ (f : Fields). field
 is-day : (text : List ℕ) (n : ℕ) → WritesDay text n → IsDayText n text
 is-day text n d =
     let last = d.last in
-    elim d.is [ inl two ↦ subst (IsDayText n) two (two-day n (omega (arith, last))) | inr bare ↦ subst (IsDayText n) bare (bare-day n (omega (arith, last))) ]
+    elim d.is [
+      | inl two ↦ subst (IsDayText n) two (two-day n (omega (arith, last)))
+      | inr bare ↦ subst (IsDayText n) bare
+          (bare-day n (omega (arith, last)))
+    ]
 
 abbrev clock_shown : ℕ × ℕ × ℕ → List ℕ
 clock_shown clock = clock_text (record { hour = clock.0; minute = clock.1; second = clock.2 })
 
-time-is : (back : List ℕ) (clock : ℕ × ℕ × ℕ) (offset : ℤ) → WritesTime back (clock, offset) → space ∷ (clock_shown clock ++ (space ∷ compact_offset_text (pos 60 *ℤ offset))) ≡ back
+time-is : (back : List ℕ) (clock : ℕ × ℕ × ℕ) (offset : ℤ) → WritesTime back (clock, offset)
+    → space ∷ (clock_shown clock ++ (space ∷ compact_offset_text (pos 60 *ℤ offset))) ≡ back
 time-is back clock offset w = ap₂ (λ (x y : List ℕ). space ∷ (x ++ (space ∷ y))) w.is_clock.is w.is_offset.is ∙ w.is
 
 -- `2022-08-18 12:45:06 +0800`, `2022-08-18T12:45:06+08:00`
@@ -77,13 +87,15 @@ module _ (text front back : List ℕ) (date clock : ℕ × ℕ × ℕ) (offset :
   pub iso_says : WritesTime back (clock, offset) → SaysFields text (fields_in date clock offset)
   iso_says w =
       says 0 date clock offset _ _ compact_offset_text (omega arith) d.within w.is_clock w.is_offset text _
-      (λ now. iso-reads d.mark (date-mark d.mark d.is_mark) now _ (git-clock 0 date clock offset _ _ compact_offset_text (omega arith) d.within w.is_clock w.is_offset))
+      (λ now. iso-reads d.mark (date-mark d.mark d.is_mark) now _
+      (git-clock 0 date clock offset _ _ compact_offset_text (omega arith) d.within w.is_clock w.is_offset))
       (ap₂ (λ (x y : List ℕ). x ++ y) d.is (time-is back clock offset w) ∙ whole)
 
   pub strict_says : WritesStrictTime back (clock, offset) → SaysFields text (fields_in date clock offset)
   strict_says w =
       says 0 date clock offset _ _ strict_offset_text (omega arith) d.within w.is_clock w.is_offset text _
-      (λ now. strict-reads d.mark (date-mark d.mark d.is_mark) now _ (git-clock 0 date clock offset _ _ strict_offset_text (omega arith) d.within w.is_clock w.is_offset))
+      (λ now. strict-reads d.mark (date-mark d.mark d.is_mark) now _
+      (git-clock 0 date clock offset _ _ strict_offset_text (omega arith) d.within w.is_clock w.is_offset))
       (ap₂ (λ (x y : List ℕ). x ++ y) d.is (ap₂ (λ (x y : List ℕ). letter_t ∷ (x ++ y)) w.is_clock.is w.is_offset.is ∙ w.is) ∙ whole)
 
 -- `Thu, 18 Aug 2022 12:45:06 +0800`
@@ -96,32 +108,48 @@ mail-within : (text : List ℕ) (date : ℕ × ℕ × ℕ) → WritesMailDate te
 mail-within text date d =
     let y = d.is_rest.is_year in
     let m = d.is_rest.is_month in
-    record { first_year = y.first; last_year = y.last; first_month = m.first; last_month = m.last; first_day = d.is_day.first; last_day = d.is_day.last }
+    record {
+      first_year = y.first;
+      last_year = y.last;
+      first_month = m.first;
+      last_month = m.last;
+      first_day = d.is_day.first;
+      last_day =
+          d.is_day.last;
+    }
 
-mail-is : (text : List ℕ) (date : ℕ × ℕ × ℕ) (d : WritesMailDate text date) → d.day ++ (space ∷ (month_name date.1 ++ (space ∷ four_digits date.0))) ≡ text
+mail-is : (text : List ℕ) (date : ℕ × ℕ × ℕ) (d : WritesMailDate text date)
+    → d.day ++ (space ∷ (month_name date.1 ++ (space ∷ four_digits date.0))) ≡ text
 mail-is text date d =
     let r = d.is_rest in
-    ap₂ (λ (m y : List ℕ). d.day ++ (space ∷ (m ++ (space ∷ y)))) r.is_month.is r.is_year.is ∙ ap (λ (rest : List ℕ). d.day ++ rest) r.is ∙ d.is
+    ap₂ (λ (m y : List ℕ). d.day ++ (space ∷ (m ++ (space ∷ y)))) r.is_month.is r.is_year.is ∙ ap (λ (rest : List ℕ). d.day ++ rest) r.is
+    ∙ d.is
 
-pub mail_says : (text front back : List ℕ) (date clock : ℕ × ℕ × ℕ) (offset : ℤ) → front ++ back ≡ text → WritesMailDay front date → WritesTime back (clock, offset)
+pub mail_says : (text front back : List ℕ) (date clock : ℕ × ℕ × ℕ) (offset : ℤ) → front ++ back ≡ text → WritesMailDay front date
+    → WritesTime back (clock, offset)
     → SaysFields text (fields_in date clock offset)
 mail_says text front back date clock offset whole n w =
     let d = n.is_rest in
     let day = d.day in
     let within = mail-within n.rest date d in
     says n.weekday date clock offset _ _ compact_offset_text n.is_name.small within w.is_clock w.is_offset text _
-    (λ now. mail-reads day now _ (git-clock n.weekday date clock offset _ _ compact_offset_text n.is_name.small within w.is_clock w.is_offset) (is-day day date.2 d.is_day))
-    (mail-joined (day_name n.weekday) day (month_name date.1) (four_digits date.0) (space ∷ (clock_shown clock ++ (space ∷ compact_offset_text (pos 60 *ℤ offset))))
+    (λ now. mail-reads day now _
+    (git-clock n.weekday date clock offset _ _ compact_offset_text n.is_name.small within w.is_clock w.is_offset)
+    (is-day day date.2 d.is_day))
+    (mail-joined (day_name n.weekday) day (month_name date.1) (four_digits date.0)
+    (space ∷ (clock_shown clock ++ (space ∷ compact_offset_text (pos 60 *ℤ offset))))
     ∙ ap₂ (λ (x y : List ℕ). x ++ y)
     (ap₂ (λ (x y : List ℕ). x ++ (comma ∷ (space ∷ y))) n.is_name.is (mail-is n.rest date d) ∙ n.is)
     (time-is back clock offset w)
     ∙ whole)
 
 -- `Thu Aug 18 12:45:06 2022 +0800`
-named-joined : (name month day back : List ℕ) → name ++ (space ∷ (month ++ (space ∷ (day ++ back)))) ≡ (name ++ (space ∷ (month ++ (space ∷ day)))) ++ back
+named-joined : (name month day back : List ℕ)
+    → name ++ (space ∷ (month ++ (space ∷ (day ++ back)))) ≡ (name ++ (space ∷ (month ++ (space ∷ day)))) ++ back
 named-joined name month day back = simp append_assoc
 
-default-says : (text front back : List ℕ) (year : ℕ) (date : ℕ × ℕ) (clock : ℕ × ℕ × ℕ) (offset : ℤ) → front ++ back ≡ text → WritesNamedDay front date
+default-says : (text front back : List ℕ) (year : ℕ) (date : ℕ × ℕ) (clock : ℕ × ℕ × ℕ) (offset : ℤ) → front ++ back ≡ text
+    → WritesNamedDay front date
     → WritesYearTime back (clock, year, offset) → SaysFields text (fields_in (year, date.0, date.1) clock offset)
 default-says text front back year date clock offset whole n w =
     let r = w.is_rest in
@@ -134,19 +162,25 @@ default-says text front back year date clock offset whole n w =
       last_day = n.is_day.last;
     } in
     says n.weekday (year, date.0, date.1) clock offset _ _ compact_offset_text n.is_name.small within w.is_clock r.is_offset text _
-    (λ now. default-reads n.day now _ (git-clock n.weekday (year, date.0, date.1) clock offset _ _ compact_offset_text n.is_name.small within w.is_clock r.is_offset) (is-day n.day date.1 n.is_day))
-    (named-joined (day_name n.weekday) (month_name date.0) n.day (space ∷ (clock_shown clock ++ (space ∷ (four_digits year ++ (space ∷ compact_offset_text (pos 60 *ℤ offset))))))
+    (λ now. default-reads n.day now _
+    (git-clock n.weekday (year, date.0, date.1) clock offset _ _ compact_offset_text n.is_name.small within w.is_clock r.is_offset)
+    (is-day n.day date.1 n.is_day))
+    (named-joined (day_name n.weekday) (month_name date.0) n.day
+    (space ∷ (clock_shown clock ++ (space ∷ (four_digits year ++ (space ∷ compact_offset_text (pos 60 *ℤ offset))))))
     ∙ ap₂ (λ (x y : List ℕ). x ++ y)
     (ap₂ (λ (x y : List ℕ). x ++ (space ∷ (y ++ (space ∷ n.day)))) n.is_name.is n.is_month.is ∙ n.is)
-    (ap₂ (λ (x y : List ℕ). space ∷ (x ++ y)) w.is_clock.is (ap₂ (λ (x y : List ℕ). space ∷ (x ++ (space ∷ y))) r.is_year.is r.is_offset.is ∙ r.is) ∙ w.is)
+    (ap₂ (λ (x y : List ℕ). space ∷ (x ++ y)) w.is_clock.is
+    (ap₂ (λ (x y : List ℕ). space ∷ (x ++ (space ∷ y))) r.is_year.is r.is_offset.is ∙ r.is) ∙ w.is)
     ∙ whole)
 
-pub default_says : (text front back : List ℕ) (year month day : ℕ) (clock : ℕ × ℕ × ℕ) (offset : ℤ) → front ++ back ≡ text → WritesNamedDay front (month, day)
+pub default_says : (text front back : List ℕ) (year month day : ℕ) (clock : ℕ × ℕ × ℕ) (offset : ℤ) → front ++ back ≡ text
+    → WritesNamedDay front (month, day)
     → WritesYearTime back (clock, year, offset) → SaysFields text (fields_in (year, month, day) clock offset)
 default_says text front back year month day clock offset whole n w = default-says text front back year (month, day) clock offset whole n w
 
 -- one digit is a day
-pub one_digit : (text : List ℕ) (found : Option ℕ) → 1 ≤ length text → length text < 2 → IfSome found (WritesTwo 1 9 48 (get_or text 0 0)) → IfSome found (WritesDay text)
+pub one_digit : (text : List ℕ) (found : Option ℕ) → 1 ≤ length text → length text < 2 → IfSome found (WritesTwo 1 9 48 (get_or text 0 0))
+    → IfSome found (WritesDay text)
 one_digit text None low high h = tt
 one_digit [] (Some n) low high h = absurd (omega (arith, low))
 one_digit (a ∷ b ∷ text) (Some n) low high h = absurd (omega (arith, high))

@@ -1,6 +1,7 @@
 -- A text of fewer than three digits, and without a colon, says no clock: the exact reader does not read it, and has no other
 -- refusal.
-use Rattle.std.proofs.Common.{◌≡◌, ◌∙◌, ◌<◌, ◌≤◌, ◌+◌, ℕ, Bool, true, false, cond, List, [], ◌∷◌, length, nat_le, nat_lt, Option, Some, None, is_none, Err, refl, sym, subst, arith}
+use Rattle.std.proofs.Common.{◌≡◌, ◌∙◌, ◌<◌, ◌≤◌, ◌+◌, ℕ, Bool, true, false, cond, List, [], ◌∷◌, length, nat_le, nat_lt, Option, Some}
+use Rattle.std.proofs.Common.{None, is_none, Err, refl, sym, subst, arith}
 use Rattle.std.specs.Prelude.{not, ◌==◌, ◌&&◌, ◌||◌, option_map, Result, Ok}
 use Rattle.std.specs.Char.{is_ascii_alphabetic, is_ascii_digit}
 use Rattle.std.specs.List.{count_by, list_any}
@@ -10,9 +11,11 @@ use Rattle.std.proofs.lemmas.Bool.{and_parts, not-true}
 use Rattle.std.proofs.lemmas.Bool.Decides.{nat_tests}
 use Rattle.gix_date.specs.Text.Characters.{colon}
 use Rattle.git_date.specs.Rules.Dates.{year_said, year_date, recent_date}
-use Rattle.git_date.specs.Rules.Digits.{Stepped, is_epoch, bare_digits, few_digits, two_digit_year, or_month, digits_rule, group_or_bare, group_said, grouped}
+use Rattle.git_date.specs.Rules.Digits.{Stepped, is_epoch, bare_digits, few_digits, two_digit_year, or_month, digits_rule, group_or_bare}
+use Rattle.git_date.specs.Rules.Digits.{group_said, grouped}
 use Rattle.git_date.specs.Exact.Fast.{has_few_digits}
-use Rattle.git_date.specs.Rules.Groups.{ReadTokens, marked_number, is_group_mark, third_or_none, group_of, year_first_group, day_month_group, group_rule, large_in}
+use Rattle.git_date.specs.Rules.Groups.{ReadTokens, marked_number, is_group_mark, third_or_none, group_of, year_first_group}
+use Rattle.git_date.specs.Rules.Groups.{day_month_group, group_rule, large_in}
 use Rattle.git_date.specs.Tokens.Numbers.{number}
 use Rattle.git_date.specs.Exact.Reading.{nothing_read, reading_of, fields_said}
 use Rattle.git_date.specs.Tokens.Tokens.{Token, Letters, Digits, Mark, letter_before, digit_before, tokens, bytes_left}
@@ -56,13 +59,15 @@ QuietDated dated.YearRefused = ⊥
 month-kept : (f : Fields) (n : ℕ) → HasNoMinute f → NoneHasMinute (or_month f n)
 month-kept f n e = either NoneHasMinute (nat_le 1 n && nat_le n 12 && is_none f.month) _ None e tt
 
-year-kept : (f : Fields) (n : ℕ) (o : Option ℕ) → HasNoMinute f → NoneHasMinute (option_or (option_map (λ year. record f { year = Some year }) o) (or_month f n))
+year-kept : (f : Fields) (n : ℕ) (o : Option ℕ) → HasNoMinute f
+    → NoneHasMinute (option_or (option_map (λ year. record f { year = Some year }) o) (or_month f n))
 year-kept f n (Some year) e = e
 year-kept f n None e = month-kept f n e
 
 few-quiet : (f : Fields) (width n : ℕ) → HasNoMinute f → NoneHasMinute (few_digits f width n)
 unfolding few_digits
-few-quiet f width n e = either NoneHasMinute (nat_le 1 n && nat_le n 31 && is_none f.day) _ _ e (year-kept f n (cond (width == 2) (two_digit_year f n) None) e)
+few-quiet f width n e =
+    either NoneHasMinute (nat_le 1 n && nat_le n 31 && is_none f.day) _ _ e (year-kept f n (cond (width == 2) (two_digit_year f n) None) e)
 
 bare-quiet : (f : Fields) (run : List ℕ) (more : List Token) → HasNoMinute f → length run ≤ 2 → IsQuiet (bare_digits f run more)
 unfolding bare_digits
@@ -96,7 +101,8 @@ unfolding marked_number
 marked-small (Mark byte ∷ Digits run ∷ more) q = (q.0, q.1.0.1, q.1.1)
 marked-small ts q = tt
 
-third-small : (mark first : ℕ) (second : Number) (more : List Token) (found : ReadTokens (ℕ × Number)) → (mark == colon) ≡ false → first ≤ 99 → second.value ≤ 99 → IsMarkedSmall found
+third-small : (mark first : ℕ) (second : Number) (more : List Token) (found : ReadTokens (ℕ × Number)) → (mark == colon) ≡ false
+    → first ≤ 99 → second.value ≤ 99 → IsMarkedSmall found
     → IsReadSmall (Some (third_or_none mark first second more found))
 third-small mark first second more None m a b h = record { mark = m; first = a; second = b; third = tt }
 third-small mark first second more (Some found) m a b h =
@@ -106,7 +112,8 @@ third-small mark first second more (Some found) m a b h =
 after-small : (first : ℕ) (found : ReadTokens (ℕ × Number)) → first ≤ 99 → IsMarkedSmall found → IsReadSmall (group_after first found)
 after-small first None a h = tt
 after-small first (Some found) a h =
-    either IsReadSmall (is_group_mark found.0.0) _ _ (third-small found.0.0 first found.0.1 found.1 (marked_number found.1) h.0 a h.1 (marked-small found.1 h.2)) tt
+    either IsReadSmall (is_group_mark found.0.0) _ _
+    (third-small found.0.0 first found.0.1 found.1 (marked_number found.1) h.0 a h.1 (marked-small found.1 h.2)) tt
 
 none-large : (mark first : ℕ) (second : Number) (third : Option Number) → second.value ≤ 99 → IsThirdSmall third
     → large_in (record { mark = mark; first = first; second = second; third = third }) ≡ None
@@ -118,7 +125,8 @@ date-leaves : (f next : Fields) (year month day : ℕ) → year_date f year mont
 unfolding year_date
 date-leaves f next year month day e = grind (arith, nat_tests)
 
-recent-leaves : (now : Now) (f next : Fields) (month day : ℕ) (third : Option ℕ) → recent_date now f month day third ≡ Some next → next.minute ≡ f.minute
+recent-leaves : (now : Now) (f next : Fields) (month day : ℕ) (third : Option ℕ) → recent_date now f month day third ≡ Some next
+    → next.minute ≡ f.minute
 unfolding recent_date
 recent-leaves now f next month day third e = grind (arith, nat_tests)
 
@@ -129,7 +137,8 @@ day-leaves : (now : Now) (f next : Fields) (g : Group) → day_month_group now f
 unfolding day_month_group
 day-leaves now f next g e = grind (arith, recent-leaves)
 
-group-leaves : (now : Now) (f next : Fields) (g : Group) → (g.mark == colon) ≡ false → group_rule now f g ≡ dated.Taken next → next.minute ≡ f.minute
+group-leaves : (now : Now) (f next : Fields) (g : Group) → (g.mark == colon) ≡ false → group_rule now f g ≡ dated.Taken next
+    → next.minute ≡ f.minute
 unfolding group_rule
 group-leaves now f next g m e = grind (arith, nat_tests, year-leaves, day-leaves)
 
@@ -172,7 +181,8 @@ grouped-quiet now f left (Some found) e h =
     let g = found.0 in
     by-dated left g found.1 (group_rule now f g) (none-large g.mark g.first g.second g.third h.second h.third) (group-quiet now f g e h)
 
-or-bare-quiet : (f : Fields) (run : List ℕ) (more : List Token) (said : Result (Option (Fields × List Token)) Fault) → QuietSaid said → IsQuiet (bare_digits f run more)
+or-bare-quiet : (f : Fields) (run : List ℕ) (more : List Token) (said : Result (Option (Fields × List Token)) Fault) → QuietSaid said
+    → IsQuiet (bare_digits f run more)
     → IsQuiet (and_then said (group_or_bare f run more))
 or-bare-quiet f run more (Ok None) q bare = bare
 or-bare-quiet f run more (Ok (Some found)) q bare = q
@@ -181,7 +191,8 @@ or-bare-quiet f run more (Err fault) q bare = absurd q
 small-number : (f : Fields) (n : ℕ) → n ≤ 99 → is_epoch f n ≡ false
 small-number f n h = let low : nat_le 100_000_000 n ≡ false = grind (arith, nat_tests) in rw low refl
 
-digits-quiet : (now : Now) (f : Fields) (run : List ℕ) (more : List Token) → HasNoMinute f → AreAll Tame (Digits run ∷ more) → IsQuiet (digits_rule now f run more)
+digits-quiet : (now : Now) (f : Fields) (run : List ℕ) (more : List Token) → HasNoMinute f → AreAll Tame (Digits run ∷ more)
+    → IsQuiet (digits_rule now f run more)
 unfolding digits_rule group_said group_of
 digits-quiet now f run more e q =
     rw (small-number f (number run) q.0.1, not-large (number run) q.0.1)
@@ -245,7 +256,8 @@ plain-of [] e = record { plain = tt; few = omega arith }
 plain-of (c ∷ text) e =
     let none = no-colon (c == colon) (has_colon text) e in
     subst (λ (n : ℕ). HasTokens (tokens (c ∷ text)) n) (sym (sum_by-cons (λ (c : ℕ). cond (is_ascii_digit c) 1 0) c text))
-    (byte-plain (is_ascii_alphabetic c) (is_ascii_digit c) c (tokens text) (count_by is_ascii_digit text) refl none.0 (plain-of text none.1))
+    (byte-plain (is_ascii_alphabetic c) (is_ascii_digit c) c (tokens text) (count_by is_ascii_digit text) refl none.0
+    (plain-of text none.1))
 
 small-run : (run : List ℕ) → AllDigits run → length run ≤ 2 → number run ≤ 99
 unfolding number
@@ -264,7 +276,8 @@ tame-from (Mark byte ∷ more) p h = (p.0, tame-from more p.1 h)
 tame-steps : (now : Now) (text : List ℕ) → AreAll Tame (tokens text) → fields_said text (reading_of now text) ≡ Err Unreadable
 unfolding reading_of
 tame-steps now text q =
-    no-seconds NoMinute Tame (λ year minute e. rw e refl) (λ run q. q.1) now (digits-quiet now) text (length text) nothing_read (tokens text) refl q
+    no-seconds NoMinute Tame (λ year minute e. rw e refl) (λ run q. q.1) now (digits-quiet now) text (length text) nothing_read
+    (tokens text) refl q
 
 pub digits_are_few : (now : Now) (text : List ℕ) → has_few_digits text ≡ true → fields_said text (reading_of now text) ≡ Err Unreadable
 digits_are_few now text e =

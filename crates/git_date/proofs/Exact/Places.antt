@@ -1,5 +1,6 @@
 -- Where the places of answers and refusals are: at characters of the text.
-use Rattle.std.proofs.Common.{◌≡◌, ◌∙◌, ◌<◌, ◌-◌, ◌+◌, pos, nat_lt, option_map, ℕ, ℤ, Bool, true, false, cond, List, [], ◌∷◌, ◌++◌, length, get_or, refl, ap, sym, subst, arith, append_assoc, length-append, Option, Some, None, IfSome, Result, Ok, Err}
+use Rattle.std.proofs.Common.{◌≡◌, ◌∙◌, ◌<◌, ◌-◌, ◌+◌, pos, nat_lt, option_map, ℕ, ℤ, Bool, true, false, cond, List, [], ◌∷◌, ◌++◌, length}
+use Rattle.std.proofs.Common.{get_or, refl, ap, sym, subst, arith, append_assoc, length-append, Option, Some, None, IfSome, Result, Ok, Err}
 use Rattle.std.proofs.lemmas.Str.{IsCharBoundary-before_ascii}
 use Rattle.std.proofs.Math.Seq.{get_or-append_seam}
 use Rattle.std.specs.Char.{is_ascii_alphabetic, is_ascii_digit}
@@ -13,7 +14,8 @@ use Rattle.git_date.specs.Tokens.Tokens.{Token, Letters, Digits, Mark, token_tex
 use Rattle.git_date.specs.Rules.Dates.{exact_seconds}
 use Rattle.git_date.specs.Rules.Offsets.{at_text}
 use Rattle.git_date.specs.Tokens.Strings.{string_len, before_nul, nul_place}
-use Rattle.git_date.specs.Exact.Reading.{nothing_read, reading_of, place_in, at_said, by_seconds, fields_said, at_or_fields, said_up_to, string_said, said_by}
+use Rattle.git_date.specs.Exact.Reading.{nothing_read, reading_of, place_in, at_said, by_seconds, fields_said, at_or_fields, said_up_to}
+use Rattle.git_date.specs.Exact.Reading.{string_said, said_by}
 use Rattle.git_date.specs.Exact.Outcome.{date_at, date_in, said_in, at_offset, date_of, instant_seconds, IsPlaceIn, IsErrorIn, HasPlacesIn}
 use Rattle.git_date.specs.Exact.Zones.{states_of}
 use Rattle.git_date.specs.declared.fields.dates.Now.{Now}
@@ -75,7 +77,8 @@ place-at : (text front : List ℕ) (c : ℕ) (rest : List ℕ) → text ≡ fron
 place-at text front c rest e h =
     let long : length text ≡ length front + length (c ∷ rest) = ap length e ∙ length-append front (c ∷ rest) in
     let place : length text - length (c ∷ rest) ≡ length front = omega arith in
-    let byte : get_or text (length front) 0 ≡ c = ap (λ (bytes : List ℕ). get_or bytes (length front) 0) e ∙ get_or-append_seam front c rest 0 in
+    let byte : get_or text (length front) 0 ≡ c = ap (λ (bytes : List ℕ). get_or bytes (length front) 0) e
+    ∙ get_or-append_seam front c rest 0 in
     let within : length front < length text = omega arith in
     subst (IsPlaceIn text) (sym place) (IsCharBoundary-before_ascii text (length front) within (omega (arith, byte)), within)
 
@@ -98,18 +101,21 @@ IsReadIn text read = IsReadAt (IsPlaceOf text) read
 reading-at : (now : Now) (text : List ℕ) → IsReadIn text (reading_of now text)
 unfolding reading_of
 reading-at now text =
-    steps-at (Ends text) (IsPlaceOf text) (kept text) now (length text) nothing_read (tokens text) ([], sym (texts_are text), runs-of text) tt
+    steps-at (Ends text) (IsPlaceOf text) (kept text) now (length text) nothing_read (tokens text) ([], sym (texts_are text), runs-of text)
+    tt
 
 -- the places of what a text says
 abbrev IsSaidIn : List ℕ → Result Said DateError → Type 0
 IsSaidIn text (Ok said) = IfSome said.ignored (IsPlaceIn text)
 IsSaidIn text (Err e) = IsErrorIn text e
 
-pub ignored-in : (text : List ℕ) (ignored : Option ℕ) → IsAt (IsPlaceOf text) ignored → IfSome (option_map (place_in text) ignored) (IsPlaceIn text)
+pub ignored-in : (text : List ℕ) (ignored : Option ℕ) → IsAt (IsPlaceOf text) ignored
+    → IfSome (option_map (place_in text) ignored) (IsPlaceIn text)
 ignored-in text None h = tt
 ignored-in text (Some left) h = h
 
-seconds-in : (text : List ℕ) (r : Reading) (seconds : Option ℤ) → IsAt (IsPlaceOf text) r.ignored → IsSaidIn text (by_seconds text r seconds)
+seconds-in : (text : List ℕ) (r : Reading) (seconds : Option ℤ) → IsAt (IsPlaceOf text) r.ignored
+    → IsSaidIn text (by_seconds text r seconds)
 seconds-in text r None h = tt
 seconds-in text r (Some seconds) h = either (IsSaidIn text) (is_instant seconds) _ _ (ignored-in text r.ignored h) tt
 
@@ -143,16 +149,19 @@ error-before text (error.YearRefused place) h = place-before text place h
 error-before text error.Unreadable h = tt
 error-before text error.Range h = tt
 
-nul-in : (text : List ℕ) (b : Bool) → nat_lt (string_len text) (length text) ≡ b → IfSome (cond b (Some (string_len text)) None) (IsPlaceIn text)
+nul-in : (text : List ℕ) (b : Bool) → nat_lt (string_len text) (length text) ≡ b
+    → IfSome (cond b (Some (string_len text)) None) (IsPlaceIn text)
 nul-in text true e = nul-place-in text (grind (arith, nat_tests, e))
 nul-in text false e = tt
 
-pub up-to-in : (text : List ℕ) (ignored : Option ℕ) → IfSome ignored (IsPlaceIn (before_nul text)) → IfSome (option_or ignored (nul_place text)) (IsPlaceIn text)
+pub up-to-in : (text : List ℕ) (ignored : Option ℕ) → IfSome ignored (IsPlaceIn (before_nul text))
+    → IfSome (option_or ignored (nul_place text)) (IsPlaceIn text)
 unfolding nul_place
 up-to-in text None h = nul-in text (nat_lt (string_len text) (length text)) refl
 up-to-in text (Some place) h = place-before text place h
 
-said-up-to-in : (text : List ℕ) (said : Result Said DateError) → IsSaidIn (before_nul text) said → IsSaidIn text (said_up_to (nul_place text) said)
+said-up-to-in : (text : List ℕ) (said : Result Said DateError) → IsSaidIn (before_nul text) said
+    → IsSaidIn text (said_up_to (nul_place text) said)
 said-up-to-in text (Ok said) h = up-to-in text said.ignored h
 said-up-to-in text (Err e) h = error-before text e h
 
@@ -169,7 +178,8 @@ local-in : (text : List ℕ) (said : Said) (offset : Option ℤ) → IfSome said
 local-in text said None h = tt
 local-in text said (Some offset) h = date-at-in text said _ h
 
-offset-in : (tz : TimeZone) (text : List ℕ) (said : Said) (offset : Option ℤ) → IfSome said.ignored (IsPlaceIn text) → HasPlacesIn text (at_offset tz said offset)
+offset-in : (tz : TimeZone) (text : List ℕ) (said : Said) (offset : Option ℤ) → IfSome said.ignored (IsPlaceIn text)
+    → HasPlacesIn text (at_offset tz said offset)
 offset-in tz text said (Some minutes) h = date-at-in text said minutes h
 offset-in tz text said None h = local-in text said (said_in (states_of tz) said) h
 

@@ -1,5 +1,6 @@
 -- Git's search by its steps.
-use Rattle.std.proofs.Common.{◌≡◌, ◌∙◌, ℕ, zero, suc, ◌+◌, ◌-◌, ◌≤◌, ℤ, pos, ◌+ℤ◌, ◌-ℤ◌, ◌*ℤ◌, ◌^◌, Bool, true, false, cond, Option, Some, None, IfSome, refl, sym, ap, ap₂, arith, option_and_then, unwrap_or}
+use Rattle.std.proofs.Common.{◌≡◌, ◌∙◌, ℕ, zero, suc, ◌+◌, ◌-◌, ◌≤◌, ℤ, pos, ◌+ℤ◌, ◌-ℤ◌, ◌*ℤ◌, ◌^◌, Bool, true, false, cond, Option, Some}
+use Rattle.std.proofs.Common.{None, IfSome, refl, sym, ap, ap₂, arith, option_and_then, unwrap_or}
 use mathlib.Core.Bool.{beq}
 use Rattle.std.proofs.lemmas.Bool.Decides.{Decides-int_eq}
 use Rattle.std.specs.Ordering.{int_eq}
@@ -9,7 +10,8 @@ use Rattle.jiff.specs.Words.{IsOffsetSeconds}
 use Rattle.jiff_core.specs.Calendar.{IsWithin}
 use Rattle.gix_date.proofs.Fields.Instants.{instant_holds}
 use Rattle.gix_date.specs.Fields.Zoned.{is_instant}
-use Rattle.git_date.specs.Exact.Zones.{States, state_by, same_flag, flag_step, flag_steps, flagged, flagged_at, nearest, hour_off, by_flag, first_trail, moved, is_back, searched, most_moves, found_offset}
+use Rattle.git_date.specs.Exact.Zones.{States, state_by, same_flag, flag_step, flag_steps, flagged, flagged_at, nearest, hour_off, by_flag}
+use Rattle.git_date.specs.Exact.Zones.{first_trail, moved, is_back, searched, most_moves, found_offset}
 use Rattle.git_date.specs.declared.zones.Asked.{Asked}
 use Rattle.git_date.specs.declared.zones.Trail.{Trail}
 use Rattle.git_date.specs.declared.zones.ZoneState.{ZoneState}
@@ -41,7 +43,8 @@ module _ (zone : States) (flag : Bool) (instant : ℤ) where
 
   keeps : (more n : ℕ) (offset : ℤ) → after n ≡ Some offset → after (more + n) ≡ Some offset
   keeps zero n offset e = let same : 0 + n ≡ n = omega arith in rw same e
-  keeps (suc more) n offset e = let same : suc more + n ≡ suc (more + n) = omega arith in rw same (stays (more + n) offset (keeps more n offset e))
+  keeps (suc more) n offset e = let same : suc more + n ≡ suc (more + n) = omega arith in
+      rw same (stays (more + n) offset (keeps more n offset e))
 
   -- what a step finds, all find
   pub found-by : (n most : ℕ) (offset : ℤ) → n ≤ most → after n ≡ Some offset → after most ≡ Some offset
@@ -57,20 +60,24 @@ clock_within clock offset h near =
     (omega (arith, signed_arith, at, near), omega (arith, signed_arith, at, near))
 
 -- the first side that has a flag
-pub found_before : (zone : States) (flag : Bool) (instant distance before : ℤ) (found : Option ℤ) → before ≡ instant -ℤ distance → found ≡ flagged flag (zone before)
+pub found_before : (zone : States) (flag : Bool) (instant distance before : ℤ) (found : Option ℤ) → before ≡ instant -ℤ distance
+    → found ≡ flagged flag (zone before)
     → is_some found ≡ true → found ≡ flagged_at zone flag instant distance
 unfolding flagged_at
 found_before zone flag instant distance before None is e some = absurd cc
 found_before zone flag instant distance before (Some offset) is e some =
     ap (λ (first : Option ℤ). option_or first (flagged flag (zone (instant +ℤ distance)))) (e ∙ ap (λ (s : ℤ). flagged flag (zone s)) is)
 
-pub found_after : (zone : States) (flag : Bool) (instant distance before after : ℤ) (first found : Option ℤ) → before ≡ instant -ℤ distance → after ≡ instant +ℤ distance
-    → first ≡ flagged flag (zone before) → is_some first ≡ false → found ≡ flagged flag (zone after) → found ≡ flagged_at zone flag instant distance
+pub found_after : (zone : States) (flag : Bool) (instant distance before after : ℤ) (first found : Option ℤ) → before ≡ instant -ℤ distance
+    → after ≡ instant +ℤ distance
+    → first ≡ flagged flag (zone before) → is_some first ≡ false → found ≡ flagged flag (zone after)
+    → found ≡ flagged_at zone flag instant distance
 unfolding flagged_at
 found_after zone flag instant distance before after (Some offset) found is later h some e = absurd cc
 found_after zone flag instant distance before after None found is later none some e =
     e ∙ ap (λ (s : ℤ). flagged flag (zone s)) later
-    ∙ ap (λ (first : Option ℤ). option_or first (flagged flag (zone (instant +ℤ distance)))) (none ∙ ap (λ (s : ℤ). flagged flag (zone s)) is)
+    ∙ ap (λ (first : Option ℤ). option_or first (flagged flag (zone (instant +ℤ distance))))
+    (none ∙ ap (λ (s : ℤ). flagged flag (zone s)) is)
 
 -- flags that are compared
 pub other_told : (flag other : Bool) → beq flag other ≡ false → same_flag flag other ≡ false
@@ -84,11 +91,13 @@ same-itself true = refl
 same-itself false = refl
 
 -- with the flag that is asked, or where none is, the offset counts that shows the clock
-pub own-flag : (zone : States) (asked : Asked) (flag : Option Bool) (there : ZoneState) → IfSome flag (λ (flag : Bool). flag ≡ there.daylight)
+pub own-flag : (zone : States) (asked : Asked) (flag : Option Bool) (there : ZoneState)
+    → IfSome flag (λ (flag : Bool). flag ≡ there.daylight)
     → by_flag zone asked flag there ≡ there.offset
 own-flag zone asked None there h = refl
 own-flag zone asked (Some flag) there h =
-    ap (λ (same : Bool). cond same there.offset (unwrap_or (nearest flag_steps zone flag (asked.clock -ℤ there.offset)) (hour_off flag there.offset)))
+    ap (λ (same : Bool).
+    cond same there.offset (unwrap_or (nearest flag_steps zone flag (asked.clock -ℤ there.offset)) (hour_off flag there.offset)))
     (ap (same_flag flag) (sym h) ∙ same-itself flag)
 
 -- One move of a search.
@@ -104,12 +113,14 @@ module _ (zone : States) (asked : Asked) (trail : Trail) where
   unfolding searched
   leads n there same back h e f =
       ap₂ (by_tests n there) (sym e) (sym f)
-      ∙ ap (option_and_then (λ (there : ZoneState). by_tests n there (int_eq there.offset trail.here) (is_back trail asked.daylight there.daylight))) h
+      ∙ ap (option_and_then
+      (λ (there : ZoneState). by_tests n there (int_eq there.offset trail.here) (is_back trail asked.daylight there.daylight))) h
 
   pub leads-nowhere : (n : ℕ) → None ≡ state_by zone asked.clock trail.here → None ≡ searched (suc n) zone asked trail
   unfolding searched
   leads-nowhere n h =
-      ap (option_and_then (λ (there : ZoneState). by_tests n there (int_eq there.offset trail.here) (is_back trail asked.daylight there.daylight))) h
+      ap (option_and_then
+      (λ (there : ZoneState). by_tests n there (int_eq there.offset trail.here) (is_back trail asked.daylight there.daylight))) h
 
 pub no-moves : (zone : States) (asked : Asked) (trail : Trail) → None ≡ searched 0 zone asked trail
 unfolding searched
@@ -127,4 +138,5 @@ module _ (zone : States) (asked : Asked) (there : ZoneState) (here : Some there 
   pub found-at-guess : is_instant asked.clock ≡ true → found_offset zone asked there.offset ≡ Some there.offset
   unfolding found_offset
   found-at-guess h =
-      ap (λ (b : Bool). cond b (searched most_moves zone asked (first_trail there.offset)) None) h ∙ shown-here 5 (first_trail there.offset) refl
+      ap (λ (b : Bool). cond b (searched most_moves zone asked (first_trail there.offset)) None) h
+      ∙ shown-here 5 (first_trail there.offset) refl

@@ -1,5 +1,6 @@
 -- What a zone says of instants, and how far its clock is from UTC.
-use Rattle.std.proofs.Common.{◌≡◌, ◌∙◌, ℤ, Bool, true, false, cond, Option, Some, None, Result, Ok, Err, refl, sym, arith, ap, nat_eq, of_z, FitsSigned, w32}
+use Rattle.std.proofs.Common.{◌≡◌, ◌∙◌, ℤ, Bool, true, false, cond, Option, Some, None, Result, Ok, Err, refl, sym, arith, ap, nat_eq, of_z}
+use Rattle.std.proofs.Common.{FitsSigned, w32}
 use Rattle.jiff.specs.Types.{TimeZone, UTC, Unknown, Fixed, Posix, Tzif}
 use Rattle.jiff.specs.Words.{nanos_of_seconds, offset_at, IsFixed, IsInfoAt, IsOffsetSeconds}
 use Rattle.jiff_core.proofs.SignedLemmas.{nat_eq-bits}
@@ -56,15 +57,18 @@ fixed-flag (Tzif z) n h = absurd h
 rule-offset : (z : RuleZone) (n : ℤ) → (rule.info_at z n).offset ≡ rule.offset_at z n
 rule-offset z n = by (rule.dst_at z n)
   where
-    by : (found : Option Dst) → (match_some found (rule.std_info z) rule.dst_info).offset ≡ match_some found z.std_offset (λ (d : Dst). d.offset)
+    by : (found : Option Dst)
+        → (match_some found (rule.std_info z) rule.dst_info).offset ≡ match_some found z.std_offset (λ (d : Dst). d.offset)
     by (Some d) = refl
     by None = refl
 
 table-offset : (z : TableZone) (n : ℤ) → (table.info_at z n).offset ≡ table.offset_at z n
-table-offset z n = by (table.rule_after z (table.count_at z (table.floor_second n))) (table.type_after z (table.count_at z (table.floor_second n)))
+table-offset z n =
+    by (table.rule_after z (table.count_at z (table.floor_second n))) (table.type_after z (table.count_at z (table.floor_second n)))
   where
     by : (found : Option RuleZone) (last : LocalTimeType)
-        → (match_some found (table.info_of last) (λ (z : RuleZone). rule.info_at z n)).offset ≡ match_some found last.offset (λ (z : RuleZone). rule.offset_at z n)
+        → (match_some found (table.info_of last) (λ (z : RuleZone). rule.info_at z n)).offset
+        ≡ match_some found last.offset (λ (z : RuleZone). rule.offset_at z n)
     by (Some z) last = rule-offset z n
     by None last = refl
 
@@ -98,6 +102,7 @@ other-bits a b fits other e =
     sym (nat_eq-bits w32 a b fits other) ∙ unlike
 
 -- an offset that is said leaves nothing to the zone
-pub moved : (tz other : TimeZone) (read : Result Said DateError) (minutes : ℤ) → said_offset read ≡ Some minutes → date_of tz read ≡ date_of other read
+pub moved : (tz other : TimeZone) (read : Result Said DateError) (minutes : ℤ) → said_offset read ≡ Some minutes
+    → date_of tz read ≡ date_of other read
 moved tz other (Err e) minutes f = refl
 moved tz other (Ok said) minutes f = ap (at_offset tz said) f ∙ ap (at_offset other said) (sym f)

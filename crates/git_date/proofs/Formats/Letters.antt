@@ -8,7 +8,8 @@ use Rattle.std.specs.List.{list_all, prefix_len}
 use Rattle.std.specs.Str.{bytes_eq}
 use Rattle.git_date.specs.declared.format.directives.Directive.{Directive}
 use Rattle.git_date.specs.declared.format.directives.Plain.{Plain}
-use Rattle.git_date.specs.Formats.Directives.{lettered, plain_lettered, directive_lettered, plain_rows, number_rows, name_rows, composite_rows}
+use Rattle.git_date.specs.Formats.Directives.{lettered, plain_lettered, directive_lettered, plain_rows, number_rows, name_rows}
+use Rattle.git_date.specs.Formats.Directives.{composite_rows}
 use Rattle.git_date.specs.Formats.Pieces.{Made, made_by, plain_or_directive}
 
 pub front_fits : (p : ℕ → Bool) (xs : List ℕ) → prefix_len p xs ≤ length xs
@@ -24,7 +25,8 @@ differ letter (c ∷ more) h ascii =
 abbrev ascii_row : {A : Type 0} → List ℕ × A → Bool
 ascii_row row = list_all is_ascii row.0
 
-in-no-row : {A : Type 0} (rows : List (List ℕ × A)) (letter : ℕ) → is_ascii letter ≡ false → list_all ascii_row rows ≡ true → lettered rows letter ≡ None
+in-no-row : {A : Type 0} (rows : List (List ℕ × A)) (letter : ℕ) → is_ascii letter ≡ false → list_all ascii_row rows ≡ true
+    → lettered rows letter ≡ None
 in-no-row [] letter h all = refl
 in-no-row (row ∷ rows) letter h all =
     let parts = and_parts (ascii_row row) (list_all ascii_row rows) all in
@@ -37,13 +39,15 @@ no-directive : (letter : ℕ) → is_ascii letter ≡ false → directive_letter
 no-directive letter h =
     rw (in-no-row number_rows letter h refl, in-no-row name_rows letter h refl, in-no-row composite_rows letter h refl) refl
 
-unknown-by : (left : ℕ) (marks digits : List ℕ) (plain : Option Plain) (directive : Option Directive) (m : Made) → plain ≡ None → directive ≡ None
+unknown-by : (left : ℕ) (marks digits : List ℕ) (plain : Option Plain) (directive : Option Directive) (m : Made) → plain ≡ None
+    → directive ≡ None
     → plain_or_directive left marks digits plain directive ≡ Ok m → ⊥
 unknown-by left marks digits None None m p d e = cc
 unknown-by left marks digits None (Some directive) m p d e = cc
 unknown-by left marks digits (Some plain) directive m p d e = cc
 
-ascii-by : (left : ℕ) (marks digits : List ℕ) (letter : ℕ) (m : Made) (b : Bool) → is_ascii letter ≡ b → made_by left marks digits letter ≡ Ok m → is_ascii letter ≡ true
+ascii-by : (left : ℕ) (marks digits : List ℕ) (letter : ℕ) (m : Made) (b : Bool) → is_ascii letter ≡ b
+    → made_by left marks digits letter ≡ Ok m → is_ascii letter ≡ true
 ascii-by left marks digits letter m true h e = h
 ascii-by left marks digits letter m false h e = absurd (unknown-by left marks digits _ _ m (no-plain letter h) (no-directive letter h) e)
 

@@ -4,11 +4,11 @@ use Rattle.std.proofs.lemmas.Bool.{and_parts}
 use Rattle.std.specs.Char.{is_ascii}
 use Rattle.std.specs.List.{list_all}
 use Rattle.gix_date.specs.Fields.Layout.{LocalTime}
-use Rattle.gix_date.specs.Text.LongNames.{long_month_names}
-use Rattle.gix_date.specs.Text.Names.{day_names, month_names}
-use Rattle.git_date.specs.Formats.Names.{name_text, whole_day_names}
+use Rattle.gix_date.specs.Text.Names.{day_names, month_names, whole_day_names, whole_month_names}
+use Rattle.git_date.specs.Formats.Names.{name_text}
 use Rattle.git_date.specs.declared.format.directives.Name.{Name}
-use Rattle.git_date.specs.declared.format.directives.Name.TheVariants.{ShortDay, LongDay, ShortMonth, LongMonth, HalfDay, SmallHalfDay, LineFeed, Tab}
+use Rattle.git_date.specs.declared.format.directives.Name.TheVariants.{ShortDay, LongDay, ShortMonth, LongMonth, HalfDay, SmallHalfDay}
+use Rattle.git_date.specs.declared.format.directives.Name.TheVariants.{LineFeed, Tab}
 
 abbrev ascii : List ℕ → Bool
 ascii text = list_all is_ascii text
@@ -26,7 +26,7 @@ pub name_ascii : (name : Name) (t : LocalTime) → list_all is_ascii (name_text 
 name_ascii ShortDay t = one-ascii day_names t.weekday refl
 name_ascii LongDay t = one-ascii whole_day_names t.weekday refl
 name_ascii ShortMonth t = one-ascii month_names (t.date.month - 1) refl
-name_ascii LongMonth t = one-ascii long_month_names (t.date.month - 1) refl
+name_ascii LongMonth t = one-ascii whole_month_names (t.date.month - 1) refl
 name_ascii HalfDay t = half-ascii (nat_lt t.clock.hour 12) _ _ refl refl
 name_ascii SmallHalfDay t = half-ascii (nat_lt t.clock.hour 12) _ _ refl refl
 name_ascii LineFeed t = refl

@@ -1,5 +1,6 @@
 -- The first piece of a format, and where it ends.
-use Rattle.std.proofs.Common.{◌≡◌, ◌∙◌, ◌+◌, ◌-◌, ◌<◌, ℕ, suc, Bool, true, false, not, List, [], ◌∷◌, length, take, drop, get_or, refl, ap, sym, subst, arith, Result, Ok, Err, IsUtf8}
+use Rattle.std.proofs.Common.{◌≡◌, ◌∙◌, ◌+◌, ◌-◌, ◌<◌, ℕ, suc, Bool, true, false, not, List, [], ◌∷◌, length, take, drop, get_or, refl, ap}
+use Rattle.std.proofs.Common.{sym, subst, arith, Result, Ok, Err, IsUtf8}
 use Rattle.std.proofs.lemmas.Grind.{get_or_after_one}
 use Rattle.std.proofs.lemmas.List.{get_or-drop, length-drop}
 use Rattle.std.proofs.lemmas.Bool.Decides.{nat_tests}
@@ -8,7 +9,8 @@ use Rattle.std.proofs.lemmas.Str.{IsCharBoundary-after_ascii}
 use Rattle.std.specs.List.{slice_get}
 use Rattle.std.specs.Str.{IsCharBoundary}
 use Rattle.git_date.specs.declared.format.error.FormatFault.{FormatFault}
-use Rattle.git_date.specs.Formats.Pieces.{Made, Piece, Text, Begun, made_if, made_at, begun, next_piece, text_piece, is_percent, percent, text_len, marks_len, digits_len, after_marks, after_digits, letter_place}
+use Rattle.git_date.specs.Formats.Pieces.{Made, Piece, Text, Begun, made_if, made_at, begun, next_piece, text_piece, is_percent, percent}
+use Rattle.git_date.specs.Formats.Pieces.{text_len, marks_len, digits_len, after_marks, after_digits, letter_place}
 use Rattle.git_date.proofs.Formats.Letters.{made-ascii}
 
 letter-by : (left : ℕ) (marks digits rest : List ℕ) (m : Made) → made_if left marks digits (slice_get rest 0) ≡ Ok m
@@ -22,7 +24,8 @@ letter-in text k d =
     get_or-drop d (drop k text) 0 0 ∙ get_or-drop k text (d + 0) 0 ∙ ap (λ (n : ℕ). get_or text n 0) e
 
 -- the letter of a directive
-pub made-letter : (text : List ℕ) (m : Made) → made_at text ≡ Ok m → (letter_place text < length text) × (get_or text (letter_place text) 0 < 128)
+pub made-letter : (text : List ℕ) (m : Made) → made_at text ≡ Ok m
+    → (letter_place text < length text) × (get_or text (letter_place text) 0 < 128)
 unfolding made_at
 made-letter text m e =
     let p = letter-by (length text + 1) (take (marks_len text) text) (take (digits_len text) (after_marks text)) (after_digits text) m e in
@@ -70,7 +73,8 @@ next_made (c ∷ rest) after back place m h p is e at left =
     ap (λ (xs : List ℕ). let r : Result (Piece × List ℕ) FormatFault = Ok (Begun m, xs) in r) back_is
     ∙ sym (percent-first c rest p ∙ ap (begun rest) (ap made_at (sym is) ∙ sym e))
 
-text-by : (c : ℕ) (rest : List ℕ) (b : Bool) → is_percent c ≡ b → (text_len (c ∷ rest) ≡ 0 → ⊥) → next_piece (c ∷ rest) ≡ Ok (text_piece (c ∷ rest))
+text-by : (c : ℕ) (rest : List ℕ) (b : Bool) → is_percent c ≡ b → (text_len (c ∷ rest) ≡ 0 → ⊥)
+    → next_piece (c ∷ rest) ≡ Ok (text_piece (c ∷ rest))
 unfolding next_piece
 text-by c rest true e no_text = absurd (no_text (rw e refl))
 text-by c rest false e no_text = rw e refl

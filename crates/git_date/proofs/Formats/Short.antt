@@ -1,5 +1,6 @@
 -- Usual letters, which one walk over a format shows at once.
-use Rattle.std.proofs.Common.{◌≡◌, ◌∙◌, ◌+◌, ◌<◌, ◌≤◌, ℕ, pos, int_le, Bool, true, false, cond, List, [], ◌∷◌, ◌++◌, length, take, drop, get_or, decimal, refl, ap, sym, subst, arith, Option, Some, None, Result, Ok, Err, IsUtf8}
+use Rattle.std.proofs.Common.{◌≡◌, ◌∙◌, ◌+◌, ◌<◌, ◌≤◌, ℕ, pos, int_le, Bool, true, false, cond, List, [], ◌∷◌, ◌++◌, length, take, drop}
+use Rattle.std.proofs.Common.{get_or, decimal, refl, ap, sym, subst, arith, Option, Some, None, Result, Ok, Err, IsUtf8}
 use Rattle.std.proofs.lemmas.Int.{ints}
 use Rattle.std.proofs.lemmas.Str.{IsCharBoundary-after_ascii}
 use Rattle.std.specs.Char.{is_ascii_digit}
@@ -15,7 +16,8 @@ use Rattle.git_date.specs.declared.format.error.FormatFault.{FormatFault}
 use Rattle.git_date.specs.Formats.Directives.{plain_lettered, directive_lettered}
 use Rattle.git_date.specs.Formats.Flags.{filled, is_flag}
 use Rattle.git_date.specs.Formats.Format.{piece_text, pieces_text}
-use Rattle.git_date.specs.Formats.Pieces.{Made, Piece, Begun, begun, digits_len, letter_place, made_at, made_by, made_if, marks_len, next_piece, percent, plain_or_directive}
+use Rattle.git_date.specs.Formats.Pieces.{Made, Piece, Begun, begun, digits_len, letter_place, made_at, made_by, made_if, marks_len}
+use Rattle.git_date.specs.Formats.Pieces.{next_piece, percent, plain_or_directive}
 use Rattle.git_date.specs.Formats.Short.{letter_text, made_text, Passes}
 use Rattle.git_date.specs.Formats.Shown.{Shown}
 use Rattle.git_date.specs.Tokens.Numbers.{number as digits_number}
@@ -41,7 +43,8 @@ pub appended : (old new text told : List ℕ) (found : Option (List ℕ)) → fo
     → option_map (λ (shown : List ℕ). old ++ shown) found ≡ Some new
 appended old new text told found e same h =
     ap (λ (t : Option (List ℕ)). option_map (λ (shown : List ℕ). old ++ shown) t) e
-    ∙ ap (λ (t : List ℕ). let r : Option (List ℕ) = Some (old ++ t) in r) same ∙ ap (λ (t : List ℕ). let r : Option (List ℕ) = Some t in r) (sym h)
+    ∙ ap (λ (t : List ℕ). let r : Option (List ℕ) = Some (old ++ t) in r) same
+    ∙ ap (λ (t : List ℕ). let r : Option (List ℕ) = Some t in r) (sym h)
 
 -- a letter that shows something: what it begins, and that it is neither a flag nor a digit
 record Usual (shown : Shown) (letter : ℕ) (text : List ℕ) : Type 0 where
@@ -51,7 +54,8 @@ record Usual (shown : Shown) (letter : ℕ) (text : List ℕ) : Type 0 where
   is : made_by 0 [] [] letter ≡ Ok m
   told : piece_text shown (Begun m) ≡ text
 
-usual-by : (shown : Shown) (letter : ℕ) (text : List ℕ) (a b : Bool) (r : Result Made FormatFault) → is_flag letter ≡ a → is_ascii_digit letter ≡ b
+usual-by : (shown : Shown) (letter : ℕ) (text : List ℕ) (a b : Bool) (r : Result Made FormatFault) → is_flag letter ≡ a
+    → is_ascii_digit letter ≡ b
     → made_by 0 [] [] letter ≡ r → cond (a || b) None (made_text shown r) ≡ Some text → Usual shown letter text
 usual-by shown letter text true b r f d e h = absurd cc
 usual-by shown letter text false true r f d e h = absurd cc
@@ -61,7 +65,8 @@ usual-by shown letter text false false (Ok m) f d e h = record { flag = f; digit
 usual : (shown : Shown) (letter : ℕ) (text : List ℕ) → letter_text shown letter ≡ Some text → Usual shown letter text
 usual shown letter text h = usual-by shown letter text (is_flag letter) (is_ascii_digit letter) (made_by 0 [] [] letter) refl refl refl h
 
-anywhere-by : (left : ℕ) (m : Made) (plain : Option Plain) (directive : Option Directive) → plain_or_directive 0 [] [] plain directive ≡ Ok m
+anywhere-by : (left : ℕ) (m : Made) (plain : Option Plain) (directive : Option Directive)
+    → plain_or_directive 0 [] [] plain directive ≡ Ok m
     → plain_or_directive left [] [] plain directive ≡ Ok m
 unfolding digits_number
 anywhere-by left m (Some plain) directive e = e
@@ -77,7 +82,8 @@ made_from text k d = made_if (length text + 1) (take k text) (take d (drop k tex
 abbrev Step : Type 0
 Step = Result (Piece × List ℕ) FormatFault
 
-made-usual : (letter : ℕ) (rest : List ℕ) (m : Made) → is_flag letter ≡ false → is_ascii_digit letter ≡ false → made_by 0 [] [] letter ≡ Ok m
+made-usual : (letter : ℕ) (rest : List ℕ) (m : Made) → is_flag letter ≡ false → is_ascii_digit letter ≡ false
+    → made_by 0 [] [] letter ≡ Ok m
     → begun (letter ∷ rest) (made_at (letter ∷ rest)) ≡ Ok (Begun m, rest)
 unfolding made_at
 made-usual letter rest m f d e =
@@ -138,13 +144,15 @@ usual-cut shown text bytes old new utf8 e len h =
     cut-by shown text old new utf8 (omega (arith, ap (λ (xs : List ℕ). length xs) e)) told
 
 -- one piece more
-pub left-passed : (shown : Shown) (text rest further start old new : List ℕ) → Left text rest (λ done. old ≡ start ++ pieces_text shown done) → 0 < length rest
+pub left-passed : (shown : Shown) (text rest further start old new : List ℕ)
+    → Left text rest (λ done. old ≡ start ++ pieces_text shown done) → 0 < length rest
     → Passes shown rest further old new → Left text further (λ done. new ≡ start ++ pieces_text shown done)
 left-passed shown text rest further start old new left h p =
     left-next text rest further _ _ p.piece left h p.first p.shorter
     (λ done e. grown-more shown start old new done p.piece (piece_text shown p.piece) refl e p.said)
 
 -- `%Y`
-pub year_shown : (shown : Shown) (letter : ℕ) → letter ≡ 89 → letter_text shown letter ≡ Some (filled true 4 (decimal shown.clock.date.year))
+pub year_shown : (shown : Shown) (letter : ℕ) → letter ≡ 89
+    → letter_text shown letter ≡ Some (filled true 4 (decimal shown.clock.date.year))
 unfolding digits_number
 year_shown shown letter e = ap (letter_text shown) e

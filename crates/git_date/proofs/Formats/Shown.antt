@@ -9,7 +9,8 @@ use Rattle.git_date.specs.Show.Clocks.{has_zone_clock, zone_clock}
 use Rattle.git_date.specs.Formats.Shown.{Shown, zone_abbreviation, zone_shown, zone_shown_by}
 
 -- a zone's abbreviation is that of its definition
-pub abbreviation_is : (zone : TimeZone) (n : ℤ) (info : OffsetInfo) → IsInfoAt zone n info → abbreviation_text info.abbreviation ≡ zone_abbreviation zone n
+pub abbreviation_is : (zone : TimeZone) (n : ℤ) (info : OffsetInfo) → IsInfoAt zone n info
+    → abbreviation_text info.abbreviation ≡ zone_abbreviation zone n
 abbreviation_is UTC n info h = h.1
 abbreviation_is Unknown n info h = h.1
 abbreviation_is (Fixed offset) n info h = h.1
@@ -37,7 +38,9 @@ pub no_clock : (zone : TimeZone) (s : ℤ) → None ≡ zone_clock zone s → No
 unfolding zone_shown
 no_clock zone s e = ap (λ (found : Option LocalTime). by_zone zone s found) e
 
-pub a_clock : (zone : TimeZone) (s : ℤ) (clock : LocalTime) (shown : Shown) → Some clock ≡ zone_clock zone s → shown ≡ zone_shown_by zone s clock
+pub a_clock : (zone : TimeZone) (s : ℤ) (clock : LocalTime) (shown : Shown) → Some clock ≡ zone_clock zone s
+    → shown ≡ zone_shown_by zone s clock
     → Some shown ≡ zone_shown zone s
 unfolding zone_shown
-a_clock zone s clock shown e is = ap (λ (x : Shown). let r : Option Shown = Some x in r) is ∙ ap (λ (found : Option LocalTime). by_zone zone s found) e
+a_clock zone s clock shown e is = ap (λ (x : Shown). let r : Option Shown = Some x in r) is
+    ∙ ap (λ (found : Option LocalTime). by_zone zone s found) e

@@ -1,5 +1,6 @@
 -- What formats usually ask for, which one walk over a format shows at once.
-use Rattle.std.proofs.Common.{◌≡◌, ◌∙◌, ◌<◌, ◌≤◌, ℕ, true, false, List, [], ◌∷◌, ◌++◌, length, take, drop, get_or, decimal, refl, ap, sym, arith, append-nil, ◌-◌, Option, Some}
+use Rattle.std.proofs.Common.{◌≡◌, ◌∙◌, ◌<◌, ◌≤◌, ℕ, true, false, List, [], ◌∷◌, ◌++◌, length, take, drop, get_or, decimal, refl, ap, sym}
+use Rattle.std.proofs.Common.{arith, append-nil, ◌-◌, Option, Some}
 use Rattle.std.proofs.lemmas.Bool.Decides.{nat_tests}
 use Rattle.gix_date.specs.Fields.FieldTexts.{four_digits, date_text, clock_text}
 use Rattle.gix_date.specs.Text.Characters.{colon, minus}
@@ -20,7 +21,8 @@ mark-first : (shown : Shown) (mark : ℕ) (rest old : List ℕ) → is_percent m
     → Passes shown (mark ∷ percent ∷ rest) (percent ∷ rest) old (old ++ mark ∷ [])
 mark-first shown mark rest old e = record {
   piece = Text (mark ∷ []);
-  first = next_text (mark ∷ percent ∷ rest) (mark ∷ []) (percent ∷ rest) 1 (omega arith) (rw e refl) (λ e. absurd (omega (arith, e))) refl refl;
+  first =
+      next_text (mark ∷ percent ∷ rest) (mark ∷ []) (percent ∷ rest) 1 (omega arith) (rw e refl) (λ e. absurd (omega (arith, e))) refl refl;
   shorter = omega arith;
   said = refl;
 }
@@ -64,7 +66,8 @@ Told = Option (List ℕ)
 -- `%a`
 pub day_shown : (shown : Shown) (letter : ℕ) → letter ≡ 97 → letter_text shown letter ≡ Some (day_name shown.clock.weekday)
 unfolding digits_number
-day_shown shown letter e = ap (letter_text shown) e ∙ ap (λ (xs : List ℕ). let r : Told = Some xs in r) (bare-name (day_name shown.clock.weekday))
+day_shown shown letter e = ap (letter_text shown) e
+    ∙ ap (λ (xs : List ℕ). let r : Told = Some xs in r) (bare-name (day_name shown.clock.weekday))
 
 -- `%b`
 pub month_shown : (shown : Shown) (letter : ℕ) → letter ≡ 98 → letter_text shown letter ≡ Some (month_name shown.clock.date.month)

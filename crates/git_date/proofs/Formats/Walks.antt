@@ -1,12 +1,14 @@
 -- Walks over the pieces of a format: what was done, and what is left.
-use Rattle.std.proofs.Common.{◌≡◌, ◌∙◌, ◌+◌, ◌<◌, ◌≤◌, ℕ, zero, suc, Bool, true, false, List, [], ◌∷◌, ◌++◌, length, refl, ap, sym, arith, append_assoc, append-nil, Option, Some, None, Result, Ok, Err}
+use Rattle.std.proofs.Common.{◌≡◌, ◌∙◌, ◌+◌, ◌<◌, ◌≤◌, ℕ, zero, suc, Bool, true, false, List, [], ◌∷◌, ◌++◌, length, refl, ap, sym, arith}
+use Rattle.std.proofs.Common.{append_assoc, append-nil, Option, Some, None, Result, Ok, Err}
 use Rattle.std.proofs.lemmas.Bool.{false≢true}
 use Rattle.std.proofs.lemmas.Bool.Decides.{nat_tests}
 use Rattle.std.specs.Result.{result_unwrap_or, result_err, is_ok}
 use Rattle.std.specs.Prelude.{◌||◌, ◌==◌, option_map}
 use Rattle.git_date.specs.declared.format.error.FormatFault.{FormatFault}
 use Rattle.git_date.specs.Formats.Format.{piece_text, pieces_text, is_seconds, asks_seconds}
-use Rattle.git_date.specs.Formats.Pieces.{Piece, next_piece, pieces, pieces_in, then_pieces, piece_before, pieces_or_none, is_format, placed, format_fault, checked, checked_by}
+use Rattle.git_date.specs.Formats.Pieces.{Piece, next_piece, pieces, pieces_in, then_pieces, piece_before, pieces_or_none, is_format}
+use Rattle.git_date.specs.Formats.Pieces.{placed, format_fault, checked, checked_by}
 use Rattle.git_date.specs.Formats.Shown.{Shown}
 
 pub some-left : (rest : List ℕ) → false ≡ (length rest == 0) → 0 < length rest
@@ -73,7 +75,8 @@ left-next text rest further P Q piece left h e shorter keeps =
       done = left.done ++ piece ∷ [];
       count = s.0;
       enough = omega (arith, s.1, left.enough);
-      same = after-before left.done piece (pieces_in s.0 further) ∙ ap (after left.done) (ap (then_pieces (pieces_in s.0)) e ∙ sym s.2) ∙ left.same;
+      same = after-before left.done piece (pieces_in s.0 further) ∙ ap (after left.done) (ap (then_pieces (pieces_in s.0)) e ∙ sym s.2)
+          ∙ left.same;
       so_far = keeps left.done left.so_far;
     }
 
@@ -130,7 +133,8 @@ last-by : (b c : Bool) (r : Bool) → (b || c) ≡ false → (c ≡ false → r 
 last-by true c r h more = absurd cc
 last-by false c r h more = more h
 
-pub none-more : (xs : List Piece) (piece : Piece) → is_seconds piece ≡ false → asks_seconds xs ≡ false → asks_seconds (xs ++ piece ∷ []) ≡ false
+pub none-more : (xs : List Piece) (piece : Piece) → is_seconds piece ≡ false → asks_seconds xs ≡ false
+    → asks_seconds (xs ++ piece ∷ []) ≡ false
 none-more [] piece h k = rw h refl
 none-more (x ∷ xs) piece h k = last-by (is_seconds x) (asks_seconds xs) _ k (none-more xs piece h)
 
@@ -162,7 +166,8 @@ texts-append shown (x ∷ xs) ys =
     ap (λ (text : List ℕ). piece_text shown x ++ text) (texts-append shown xs ys)
     ∙ sym (append_assoc (piece_text shown x) (pieces_text shown xs) (pieces_text shown ys))
 
-pub texts-more : (shown : Shown) (done : List Piece) (piece : Piece) → pieces_text shown (done ++ piece ∷ []) ≡ pieces_text shown done ++ piece_text shown piece
+pub texts-more : (shown : Shown) (done : List Piece) (piece : Piece)
+    → pieces_text shown (done ++ piece ∷ []) ≡ pieces_text shown done ++ piece_text shown piece
 texts-more shown done piece =
     texts-append shown done (piece ∷ []) ∙ ap (λ (text : List ℕ). pieces_text shown done ++ text) (append-nil (piece_text shown piece))
 
@@ -175,7 +180,8 @@ pub checked_whole : (text : List ℕ) → None ≡ format_fault text → Ok text
 unfolding checked
 checked_whole text e = ap (λ (f : Option FormatFault). checked_by text f) e
 
-whole-checked-by : (text : List ℕ) (r : Pieces) → is_ok r ≡ true → checked_by text (option_map (placed (length text)) (result_err r)) ≡ Ok text
+whole-checked-by : (text : List ℕ) (r : Pieces) → is_ok r ≡ true
+    → checked_by text (option_map (placed (length text)) (result_err r)) ≡ Ok text
 whole-checked-by text (Ok ps) h = refl
 whole-checked-by text (Err e) h = absurd cc
 

@@ -5,7 +5,8 @@ use Rattle.std.specs.Int.Signed.{le_z}
 use Rattle.jiff.specs.declared.zoned.Zoned.{Zoned}
 use Rattle.gix_date.specs.Relative.Steps.{zone_of}
 use Rattle.gix_date.specs.declared.time.Time.{Time}
-use Rattle.git_date.specs.Approximate.Reading.{draft_of, answer, answer_of, guess_by, answer_up_to, string_guess, guess, is_unreadable, exact_or_guess, approximate, HasApproximatePlacesIn}
+use Rattle.git_date.specs.Approximate.Reading.{draft_of, answer, answer_of, guess_by, answer_up_to, string_guess, guess, is_unreadable}
+use Rattle.git_date.specs.Approximate.Reading.{exact_or_guess, approximate, HasApproximatePlacesIn}
 use Rattle.git_date.specs.Approximate.Drafts.{first_draft, settle}
 use Rattle.git_date.specs.Approximate.Expiry.{expiry_of, expiry_by, fixed_expiry, HasExpiryPlacesIn}
 use Rattle.git_date.specs.Approximate.Zones.{shown_in, filled_time}
@@ -43,10 +44,12 @@ draft-at : (zone : States) (today : Today) (text : List ℕ) → IsGivenAt (IsPl
 unfolding draft_of
 draft-at zone today text =
     given-at (IsPlaceOf text) _
-    (steps-on (IsPlaceOf text) (Ends text) (kept text) zone today (length text) (first_draft today.shown) (tokens text) ([], sym (texts_are text), runs-of text) (tt, tt))
+    (steps-on (IsPlaceOf text) (Ends text) (kept text) zone today (length text) (first_draft today.shown) (tokens text)
+    ([], sym (texts_are text), runs-of text) (tt, tt))
 
 -- the places of an answer
-answer-in : (text : List ℕ) (d : Draft) (time : Option Time) → IsAt (IsPlaceOf text) d.ignored → HasApproximatePlacesIn text (answer text d time)
+answer-in : (text : List ℕ) (d : Draft) (time : Option Time) → IsAt (IsPlaceOf text) d.ignored
+    → HasApproximatePlacesIn text (answer text d time)
 answer-in text d None h = tt
 answer-in text d (Some time) h = either (HasApproximatePlacesIn text) (le_z (pos 0) time.seconds) _ _ (ignored-in text d.ignored h) tt
 
@@ -56,7 +59,8 @@ answer-of-in zone today text (Ok d) h = answer-in text (settle d) (filled_time z
 answer-of-in zone today text (Err fault.Range) h = tt
 answer-of-in zone today text x h = h
 
-guess-by-in : (zone : States) (now : Now) (text : List ℕ) (shown : Option ZoneClock) → HasApproximatePlacesIn text (guess_by zone now text shown)
+guess-by-in : (zone : States) (now : Now) (text : List ℕ) (shown : Option ZoneClock)
+    → HasApproximatePlacesIn text (guess_by zone now text shown)
 guess-by-in zone now text None = tt
 guess-by-in zone now text (Some shown) =
     let today : Today = record { now = now; shown = shown } in
@@ -86,7 +90,8 @@ approximate-places moment text =
     (places (zone_of moment) (now_of moment) text) (guess-in (states_of (zone_of moment)) (now_of moment) text)
 
 -- what expires
-dated-in : (text : List ℕ) (date : Result Approximate DateError) → HasApproximatePlacesIn text date → HasExpiryPlacesIn text (expiry_of date)
+dated-in : (text : List ℕ) (date : Result Approximate DateError) → HasApproximatePlacesIn text date
+    → HasExpiryPlacesIn text (expiry_of date)
 dated-in text (Ok date) h = either (HasExpiryPlacesIn text) date.understood _ _ h tt
 dated-in text (Err e) h = h
 
@@ -98,7 +103,8 @@ fixed-in text word =
     either (HasNoPlaces text) (bytes_eq word (codes "never") || bytes_eq word (codes "false")) _ _ tt
     (either (HasNoPlaces text) (bytes_eq word (codes "all") || bytes_eq word (codes "now")) _ _ tt tt)
 
-expiry-by-in : (moment : Zoned) (text : List ℕ) (fixed : Option Expiry) → HasNoPlaces text fixed → HasExpiryPlacesIn text (expiry_by moment text fixed)
+expiry-by-in : (moment : Zoned) (text : List ℕ) (fixed : Option Expiry) → HasNoPlaces text fixed
+    → HasExpiryPlacesIn text (expiry_by moment text fixed)
 expiry-by-in moment text (Some said) fixed = fixed
 expiry-by-in moment text None fixed = dated-in text (approximate moment text) (approximate-places moment text)
 
@@ -107,7 +113,8 @@ expiry_places moment text = expiry-by-in moment text (fixed_expiry (before_nul t
 
 -- those of an answer that is guessed where there is no exact one
 pub guessed_places : (moment : Zoned) (text : List ℕ) (e : DateError) (found : Result Approximate DateError)
-    → found ≡ exact_or_guess (Err e) (guess (states_of (zone_of moment)) (now_of moment) text) → Err e ≡ date_of (zone_of moment) (said_by (now_of moment) text)
+    → found ≡ exact_or_guess (Err e) (guess (states_of (zone_of moment)) (now_of moment) text)
+    → Err e ≡ date_of (zone_of moment) (said_by (now_of moment) text)
     → HasApproximatePlacesIn text found
 guessed_places moment text e found is exact =
     let whole : found ≡ approximate moment text =

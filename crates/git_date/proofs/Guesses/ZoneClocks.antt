@@ -1,5 +1,6 @@
 -- What a zone's clock shows at an instant, and at which instant a clock is found.
-use Rattle.std.proofs.Common.{◌≡◌, ◌∙◌, ◌+ℤ◌, ◌-ℤ◌, ◌^◌, ℕ, ℤ, pos, neg_ℤ, Bool, true, false, cond, Option, Some, None, Result, FitsSigned, w32, option_map, option_and_then, refl, ap, arith}
+use Rattle.std.proofs.Common.{◌≡◌, ◌∙◌, ◌+ℤ◌, ◌-ℤ◌, ◌^◌, ℕ, ℤ, pos, neg_ℤ, Bool, true, false, cond, Option, Some, None, Result, FitsSigned}
+use Rattle.std.proofs.Common.{w32, option_map, option_and_then, refl, ap, arith}
 use Rattle.std.specs.Prelude.{ok_or}
 use Rattle.jiff.specs.Types.{TimeZone}
 use Rattle.jiff.specs.Words.{nanos_of_seconds}
@@ -52,8 +53,10 @@ unfolding found_at
 found-there zone last leap local guess h = ap (option_map (found_by local)) h
 
 -- a date that is filled in
-pub filled_by : (zone : States) (today : LocalTime) (d : Draft) (back left : ℕ) (found : Found) (s : ℤ) (r : Result Draft Fault) → s ≡ found.instant -ℤ pos back → Some found ≡ filled_instant zone today d.last d.fields
+pub filled_by : (zone : States) (today : LocalTime) (d : Draft) (back left : ℕ) (found : Found) (s : ℤ) (r : Result Draft Fault)
+    → s ≡ found.instant -ℤ pos back → Some found ≡ filled_instant zone today d.last d.fields
     → r ≡ moved_to zone d left (record { instant = s; guess = found.guess }) → r ≡ fill zone today d back left
 unfolding fill
 filled_by zone today d back left found s r at e is =
-    is ∙ ap (λ (s : ℤ). moved_to zone d left (record { instant = s; guess = found.guess })) at ∙ ap (λ (o : Option Found). and_then (ok_or o Range) (λ found. moved_to zone d left (before found back))) e
+    is ∙ ap (λ (s : ℤ). moved_to zone d left (record { instant = s; guess = found.guess })) at
+    ∙ ap (λ (o : Option Found). and_then (ok_or o Range) (λ found. moved_to zone d left (before found back))) e

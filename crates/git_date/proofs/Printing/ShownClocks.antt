@@ -9,7 +9,8 @@ use Rattle.gix_date.specs.Fields.Layout.{LocalTime}
 use Rattle.gix_date.specs.Printing.LocalClocks.{clock_of, last_of_year_9999, IsShowable}
 use Rattle.gix_date.specs.Fields.Zoned.{last_second}
 use Rattle.gix_date.specs.declared.time.Time.{Time}
-use Rattle.git_date.specs.Show.Clocks.{has_own_clock, has_zone_clock, is_dated, known_offset, own_clock, zone_clock, time_at, with_known_offset}
+use Rattle.git_date.specs.Show.Clocks.{has_own_clock, has_zone_clock, is_dated, known_offset, own_clock, zone_clock, time_at}
+use Rattle.git_date.specs.Show.Clocks.{with_known_offset}
 use Rattle.git_date.proofs.Rules.Conditions.{none-where, some-where}
 use Rattle.git_date.proofs.Rules.HeldClocks.{within}
 
@@ -38,7 +39,8 @@ pub no_own_clock : (t : Time) → has_own_clock t ≡ false → None ≡ own_clo
 unfolding own_clock
 no_own_clock t h = none-where (has_own_clock t) _ h
 
-pub a_zone_clock : (zone : TimeZone) (s : ℤ) (l : LocalTime) → has_zone_clock s ≡ true → l ≡ with_known_offset (clock_of (time_at zone s)) → Some l ≡ zone_clock zone s
+pub a_zone_clock : (zone : TimeZone) (s : ℤ) (l : LocalTime) → has_zone_clock s ≡ true → l ≡ with_known_offset (clock_of (time_at zone s))
+    → Some l ≡ zone_clock zone s
 unfolding zone_clock
 a_zone_clock zone s l h e = some-where (has_zone_clock s) l _ h e
 
@@ -47,7 +49,8 @@ unfolding zone_clock
 no_zone_clock zone s h = none-where (has_zone_clock s) _ h
 
 -- a clock with the offset that Git knows
-pub known : (u : LocalTime) (o : ℤ) (l : LocalTime) → u ≡ l → o ≡ known_offset u → ◌≡◌ {A = LocalTime} (record u { offset = o }) (with_known_offset l)
+pub known : (u : LocalTime) (o : ℤ) (l : LocalTime) → u ≡ l → o ≡ known_offset u
+    → ◌≡◌ {A = LocalTime} (record u { offset = o }) (with_known_offset l)
 known u o l e h = ap (λ (n : ℤ). let r : LocalTime = record u { offset = n } in r) h ∙ ap (λ (v : LocalTime). with_known_offset v) e
 
 abbrev timed : ℤ → ℤ → Time

@@ -1,18 +1,20 @@
 -- How long an offset is as it is written, and what a time has that is made of a line's.
-use Rattle.std.proofs.Common.{refl, ◌≡◌, ◌≢◌, ◌+◌, ◌≤◌, ◌<◌, ◌++◌, ◌^◌, ℕ, ℤ, pos, Bool, true, false, List, length, length-append, arith, cond, ap, ◌∙◌, decimal, append_assoc, [], ◌∷◌, unsigned_abs, nat_lt, if◌then◌else◌, Result, Ok, Err}
+use Rattle.std.proofs.Common.{refl, ◌≡◌, ◌≢◌, ◌+◌, ◌≤◌, ◌<◌, ◌++◌, ◌^◌, ℕ, ℤ, pos, Bool, true, false, List, length, length-append, arith}
+use Rattle.std.proofs.Common.{cond, ap, ◌∙◌, decimal, append_assoc, [], ◌∷◌, unsigned_abs, nat_lt, if◌then◌else◌, Result, Ok, Err}
 use Rattle.std.proofs.lemmas.Fmt.{length-decimal-le}
 use Rattle.gix_date.specs.Text.Numbers.{two_digits}
 use Rattle.gix_date.specs.declared.time.Time.{Time}
 use Rattle.std.specs.Int.Signed.{lt_z}
 use Rattle.gix_signature.specs.Ident.Times.{time_of_git, minutes_told, widest_minutes}
 use Rattle.gix_signature.specs.declared.error.IdentFault.{IdentFault}
-use Rattle.gix_signature.specs.declared.ident.time.GitTime.{GitTime}
+use Rattle.gix_signature.specs.declared.ident.GitTime.{GitTime}
 use Rattle.gix_date.specs.Fields.FieldTexts.{four_digits, clock_text}
 use Rattle.gix_date.specs.Fields.Layout.{LocalTime, print_pieces}
 use Rattle.gix_date.specs.Text.Characters.{comma, space}
 use Rattle.gix_date.specs.Text.Names.{day_name, month_name}
 use Rattle.git_date.specs.Show.Clocks.{Moment}
-use Rattle.git_date.specs.Show.OwnDates.{digits_from_two, short_decimals, written_offset_text, hours_written, minutes_written, is_without_offset, own_clock_shown, own_date_shown_by, rfc2822_front, before_day, then_month}
+use Rattle.git_date.specs.Show.OwnDates.{digits_from_two, short_decimals, written_offset_text, hours_written, minutes_written}
+use Rattle.git_date.specs.Show.OwnDates.{is_without_offset, own_clock_shown, own_date_shown_by, rfc2822_front, before_day, then_month}
 use Rattle.git_date.specs.declared.mode.DateKind.{DateKind}
 use Rattle.git_date.specs.declared.mode.DateKind.TheVariants.{Relative, Human, Raw, Unix}
 
@@ -23,9 +25,15 @@ chosen false n k h d = d
 digits_short : (n k : ℕ) → 2 ≤ k → n < 10 ^ k → n < 2 ^ 64 → length (digits_from_two n) ≤ k
 digits_short n k h small fits = chosen (nat_lt n 100) n k h (length-decimal-le k n (omega (arith, h)) small fits)
 
-whole : (mark : List ℕ) (o : ℤ) (k : ℕ) → length (digits_from_two (hours_written o)) ≤ k → length (written_offset_text mark o) ≤ k + length mark + 3
+whole : (mark : List ℕ) (o : ℤ) (k : ℕ) → length (digits_from_two (hours_written o)) ≤ k
+    → length (written_offset_text mark o) ≤ k + length mark + 3
 whole mark o k h =
-    omega (arith, h, length-append (digits_from_two (hours_written o) ++ mark) (two_digits (minutes_written o)), length-append (digits_from_two (hours_written o)) mark)
+    omega (
+      arith,
+      h,
+      length-append (digits_from_two (hours_written o) ++ mark) (two_digits (minutes_written o)),
+      length-append (digits_from_two (hours_written o)) mark,
+    )
 
 pub short_offset : (mark : List ℕ) (o : ℤ) → unsigned_abs o < short_decimals → length (written_offset_text mark o) ≤ 9 + length mark
 short_offset mark o h = omega (arith, whole mark o 6 (digits_short (hours_written o) 6 (omega arith) (omega (arith, h)) (omega (arith, h))))
@@ -42,7 +50,8 @@ of-choice false n fault u t h e = (grind arith, cc)
 made : (g : GitTime) (t : Time) → Ok t ≡ time_of_git g → (minutes_told (unsigned_abs g.offset) ≤ 35_791_394) × (t.seconds ≡ g.seconds)
 unfolding time_of_git
 made g t e =
-    let parts = of-choice (nat_lt widest_minutes (minutes_told (unsigned_abs g.offset))) (minutes_told (unsigned_abs g.offset)) _ _ t refl e in
+    let parts =
+    of-choice (nat_lt widest_minutes (minutes_told (unsigned_abs g.offset))) (minutes_told (unsigned_abs g.offset)) _ _ t refl e in
     (parts.0, ap (λ (x : Time). x.seconds) parts.1)
 
 pub made_seconds : (g : GitTime) (t : Time) → Ok t ≡ time_of_git g → lt_z g.seconds (pos 0) ≡ false → lt_z t.seconds (pos 0) ≡ false
@@ -61,10 +70,13 @@ by_clock Unix now t w nh nr = cc
 by_clock kind now t w nh nr = refl
 
 -- what was appended piece by piece was appended at once
-joined : (x name day month year clock : List ℕ) → ((((x ++ name) ++ day) ++ month) ++ year) ++ clock ≡ x ++ (name ++ (day ++ (month ++ (year ++ clock))))
+joined : (x name day month year clock : List ℕ)
+    → ((((x ++ name) ++ day) ++ month) ++ year) ++ clock ≡ x ++ (name ++ (day ++ (month ++ (year ++ clock))))
 joined x name day month year clock = simp append_assoc
 
-pub front_is : (x : List ℕ) (t : LocalTime) → then_month ((x ++ before_day t) ++ decimal t.date.day) t ≡ x ++ print_pieces decimal rfc2822_front t
+pub front_is : (x : List ℕ) (t : LocalTime)
+    → then_month ((x ++ before_day t) ++ decimal t.date.day) t ≡ x ++ print_pieces decimal rfc2822_front t
 unfolding then_month before_day
 front_is x t =
-    joined x (day_name t.weekday ++ comma ∷ space ∷ []) (decimal t.date.day) (space ∷ month_name t.date.month) (space ∷ four_digits t.date.year) (space ∷ clock_text t.clock)
+    joined x (day_name t.weekday ++ comma ∷ space ∷ []) (decimal t.date.day) (space ∷ month_name t.date.month)
+    (space ∷ four_digits t.date.year) (space ∷ clock_text t.clock)

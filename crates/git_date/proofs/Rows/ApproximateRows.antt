@@ -115,7 +115,8 @@ unfolding computing approximating
 expiry_rows = refl
 
 -- a NUL ends such a word, and a text
-expiry_cut : map (λ (word : String × String). fixed_expiry (before_nul (codes word.0 ++ (nul ∷ codes word.1)))) (("never", "x") ∷ ("nev", "er") ∷ ("all", "") ∷ [])
+expiry_cut : map (λ (word : String × String). fixed_expiry (before_nul (codes word.0 ++ (nul ∷ codes word.1))))
+    (("never", "x") ∷ ("nev", "er") ∷ ("all", "") ∷ [])
     ≡ Some Never ∷ None ∷ Some All ∷ []
 unfolding computing approximating
 expiry_cut = refl

@@ -27,7 +27,8 @@ own :
     ∷ "%G-W%V-%u %U %W %j" ∷ "" ∷ "100%%" ∷ [])
     ≡ map shown ("2009-08-30 21:20:00 +0200" ∷ "[] 1251660000" ∷ " 9:20pm 9    30    30 00030" ∷ "SUN AUGUST pm SUN AUG 30 21:20:00 2009"
     ∷ "  2009-08-30 000021:20:00 007" ∷ "2009-W35-7 35 34 242" ∷ "" ∷ "100%" ∷ [])
-unfolding digits shown_by_format own_shown own_clock clock_of date_of_day weekday_number days_of_months pieces pieces_in next_piece made_at year_day iso_day number
+unfolding digits shown_by_format own_shown own_clock clock_of date_of_day weekday_number days_of_months pieces pieces_in next_piece made_at
+    year_day iso_day number
 own = refl
 
 behind : Offset
@@ -37,11 +38,13 @@ behind = record { seconds = neg_ℤ (pos 14_400); in_range = (Prim.search, Prim.
 local :
     shown_by_format (Fixed behind) true (codes "%Y-%m-%d %H:%M %z") (record { seconds = pos 1_251_660_000; offset = pos 7200 })
     ≡ Some (codes "2009-08-30 15:20 -0400")
-unfolding digits shown_by_format zone_shown zone_clock clock_of date_of_day weekday_number offset_at pieces pieces_in next_piece made_at number behind
+unfolding digits shown_by_format zone_shown zone_clock clock_of date_of_day weekday_number offset_at pieces pieces_in next_piece made_at
+    number behind
 local = refl
 
 named : shown_by_format UTC true (codes "%H%Z") (record { seconds = pos 1_251_660_000; offset = pos 7200 }) ≡ Some (codes "19UTC")
-unfolding digits shown_by_format zone_shown zone_clock clock_of date_of_day weekday_number offset_at pieces pieces_in next_piece made_at number
+unfolding digits shown_by_format zone_shown zone_clock clock_of date_of_day weekday_number offset_at pieces pieces_in next_piece made_at
+    number
 named = refl
 
 -- the seconds of a year that Git does not know

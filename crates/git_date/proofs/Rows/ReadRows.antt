@@ -118,7 +118,8 @@ said_ignored (Ok said) = said.ignored
 said_ignored (Err e) = None
 
 -- what no rule used: numbers that are no year, and zones of two letters
-not_used : map (λ text. said_ignored (said_by row_now (codes text))) ("2009-01-01 10:00 1900" ∷ "2009-01-01 10:00 2100" ∷ "2008-02-14 20:30:45 UT" ∷ [])
+not_used : map (λ text. said_ignored (said_by row_now (codes text)))
+    ("2009-01-01 10:00 1900" ∷ "2009-01-01 10:00 2100" ∷ "2008-02-14 20:30:45 UT" ∷ [])
     ≡ Some 17 ∷ Some 17 ∷ Some 20 ∷ []
 unfolding computing
 not_used = refl
@@ -134,7 +135,8 @@ unfolding computing
 toward_zero = refl
 
 -- ten days after another moment, to the second
-ten_days_after : map (λ text. in_utc (said_by (record { seconds = pos 1250191200; year = 2009 }) (codes text))) ("19:20:00 8/23/2009 +0000" ∷ "19:20:01 8/23/2009 +0000" ∷ [])
+ten_days_after : map (λ text. in_utc (said_by (record { seconds = pos 1250191200; year = 2009 }) (codes text)))
+    ("19:20:00 8/23/2009 +0000" ∷ "19:20:01 8/23/2009 +0000" ∷ [])
     ≡ Ok (at 1251055200 (pos 0)) ∷ Err Unreadable ∷ []
 unfolding computing
 ten_days_after = refl

@@ -29,7 +29,8 @@ rows =
     ∷ row 31_536_000 "1 year ago" 1_220_124_000 ∷ row 35_424_000 "1 year, 1 month ago" 1_217_445_600
     ∷ row 129_600_000 "4 years, 1 month ago" 1_122_751_200 ∷ row 173_404_800 "6 years ago" 1_062_271_200 ∷ []
 
-shown_rows : map (λ (row : Row). relative_text (pos 1_251_660_000) (pos (1_251_660_000 - row.ago))) rows ≡ map (λ (row : Row). codes row.text) rows
+shown_rows : map (λ (row : Row). relative_text (pos 1_251_660_000) (pos (1_251_660_000 - row.ago))) rows
+    ≡ map (λ (row : Row). codes row.text) rows
 unfolding digits relative_text age_between age_of age_of_days
 shown_rows = refl
 
@@ -37,6 +38,7 @@ abbrev seconds_of : Result Approximate DateError → Option ℤ
 seconds_of (Ok date) = Some date.time.seconds
 seconds_of (Err e) = None
 
-read_rows : map (λ (row : Row). seconds_of (guess (one_offset (pos 0)) row_now (codes row.text))) rows ≡ map (λ (row : Row). Some (pos row.read)) rows
+read_rows : map (λ (row : Row). seconds_of (guess (one_offset (pos 0)) row_now (codes row.text))) rows
+    ≡ map (λ (row : Row). Some (pos row.read)) rows
 unfolding computing approximating
 read_rows = refl

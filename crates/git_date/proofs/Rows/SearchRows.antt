@@ -26,7 +26,8 @@ abbrev Row : Type 0
 Row = ℕ × Option Bool × ℤ × Option ℤ
 
 abbrev Finds : States → List Row → Type 0
-Finds zone rows = map (λ (row : Row). found_offset zone (record { clock = pos row.0; daylight = row.1 }) row.2) rows ≡ map (λ (row : Row). row.3) rows
+Finds zone rows =
+    map (λ (row : Row). found_offset zone (record { clock = pos row.0; daylight = row.1 }) row.2) rows ≡ map (λ (row : Row). row.3) rows
 
 -- 2023-03-12 02:30, which is skipped, and 2023-11-05 01:30, which is shown twice
 changes :
@@ -45,7 +46,8 @@ unfolding found_offset searched nearest flagged_at
 changes = refl
 
 -- noon in July, with the flag of winter: an hour later than the clock
-other_half : Finds new_york ((1688212800, Some false, behind 18000, Some (behind 18000)) ∷ (1688212800, Some true, behind 18000, Some (behind 14400)) ∷ [])
+other_half : Finds new_york
+    ((1688212800, Some false, behind 18000, Some (behind 18000)) ∷ (1688212800, Some true, behind 18000, Some (behind 14400)) ∷ [])
 unfolding found_offset searched nearest flagged_at
 other_half = refl
 
@@ -56,16 +58,19 @@ unfolding found_offset searched nearest flagged_at
 alike = refl
 
 -- a zone that never has the flag: an hour off
-no_flag : Finds (one_offset (pos 3600)) ((1688212800, Some true, pos 0, Some (pos 7200)) ∷ (1688212800, Some false, pos 0, Some (pos 3600)) ∷ [])
+no_flag : Finds (one_offset (pos 3600))
+    ((1688212800, Some true, pos 0, Some (pos 7200)) ∷ (1688212800, Some false, pos 0, Some (pos 3600)) ∷ [])
 unfolding found_offset searched nearest flagged_at
 no_flag = refl
 
 -- Hour after hour the clock goes back by an hour: Git looks at six instants.
 abbrev falling : List (ℤ × ZoneState)
 falling =
-    (pos 978337800, standard (pos 18000)) ∷ (pos 978341400, standard (pos 14400)) ∷ (pos 978345000, standard (pos 10800)) ∷ (pos 978348600, standard (pos 7200)) ∷ []
+    (pos 978337800, standard (pos 18000)) ∷ (pos 978341400, standard (pos 14400)) ∷ (pos 978345000, standard (pos 10800)) ∷
+    (pos 978348600, standard (pos 7200)) ∷ []
 
-four_hours : Finds (changing falling (standard (pos 3600))) ((978350400, None, pos 0, Some (pos 18000)) ∷ (978350400, None, pos 10800, Some (pos 18000)) ∷ [])
+four_hours : Finds (changing falling (standard (pos 3600)))
+    ((978350400, None, pos 0, Some (pos 18000)) ∷ (978350400, None, pos 10800, Some (pos 18000)) ∷ [])
 unfolding found_offset searched nearest flagged_at
 four_hours = refl
 
@@ -77,7 +82,8 @@ five_hours = refl
 abbrev summers : States
 summers = changing ((pos 1000000000, summer (pos 7200)) ∷ (pos 1000600000, standard (pos 0)) ∷ []) (summer (pos 3600))
 
-distances : nearest 0 summers true (pos 1000300000) ∷ nearest 1 summers true (pos 1000300000) ∷ nearest 2 (one_offset (pos 0)) true (pos 1000300000) ∷ []
+distances : nearest 0 summers true (pos 1000300000) ∷ nearest 1 summers true (pos 1000300000) ∷ nearest 2 (one_offset (pos 0)) true
+    (pos 1000300000) ∷ []
     ≡ None ∷ Some (pos 7200) ∷ None ∷ []
 unfolding nearest flagged_at
 distances = refl

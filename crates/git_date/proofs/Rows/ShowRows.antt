@@ -63,7 +63,8 @@ human :
     (row 1_251_300_000 (pos 7200) "human" "Wed 17:20 +0200" ∷ row 1_251_300_000 (pos 7200) "human-local" "Wed 15:20"
     ∷ row 1_251_300_000 (pos 0) "human" "Wed 15:20" ∷ row 1_251_228_000 (pos 0) "human" "Tue Aug 25 19:20"
     ∷ row 1_251_650_000 (pos 7200) "human" "3 hours ago" ∷ row 1_466_000_000 (pos 7200) "human" "Jun 15 2016" ∷ [])
-unfolding digits mode_named shown relative_text age_between age_of age_of_days own_clock zone_clock clock_of date_of_day weekday_number offset_at
+unfolding digits mode_named shown relative_text age_between age_of age_of_days own_clock zone_clock clock_of date_of_day weekday_number
+    offset_at
 human = refl
 
 clocks :

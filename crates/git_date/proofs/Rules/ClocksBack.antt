@@ -1,5 +1,6 @@
 -- The fields that a clock shows come to the seconds at which it shows them.
-use Rattle.std.proofs.Common.{◌≡◌, ◌∙◌, ◌<◌, ◌≤◌, ℕ, nat_lt, Bool, true, false, cond, ℤ, pos, neg_ℤ, ◌+ℤ◌, ◌-ℤ◌, ◌≤ℤ◌, ◌<ℤ◌, unsigned_abs, Some, None, refl, ap, subst, arith}
+use Rattle.std.proofs.Common.{◌≡◌, ◌∙◌, ◌<◌, ◌≤◌, ℕ, nat_lt, Bool, true, false, cond, ℤ, pos, neg_ℤ, ◌+ℤ◌, ◌-ℤ◌, ◌≤ℤ◌, ◌<ℤ◌, unsigned_abs}
+use Rattle.std.proofs.Common.{Some, None, refl, ap, subst, arith}
 use Rattle.std.specs.Prelude.{◌&&◌, ◌==◌}
 use Rattle.std.proofs.lemmas.Bool.{and_from as join}
 use Rattle.std.proofs.lemmas.Bool.Decides.{nat_tests}
@@ -33,13 +34,22 @@ abbrev pub shown_of : ℤ → LocalTime
 shown_of x = (clock_of (utc_time x))
 
 -- the first day of a year bounds its dates, and those of the years before
-pub before-year : (date : Date) (y first : ℕ) → y ≤ 9999 → day_count (pos y) 1 1 ≡ first → date.year <ℤ pos y → epoch_day date <ℤ (pos first -ℤ pos 4_371_953)
+pub before-year : (date : Date) (y first : ℕ) → y ≤ 9999 → day_count (pos y) 1 1 ≡ first → date.year <ℤ pos y
+    → epoch_day date <ℤ (pos first -ℤ pos 4_371_953)
 before-year date y first small e lt =
     let day_in = date.day_in in
     let year_in = date.year_in in
     let here = day_count-day_of_year date.year date.month date.day day_in.0 in
     let within = day_of_year_bound date.year date.month date.day (date.year_in, date.month_in, date.day_in) in
-    omega (arith, signed_arith, here, within, day_count-later_year date.year (pos y) (omega (arith, signed_arith, year_in)) lt, days_from_civil-day_count date.year date.month date.day, e)
+    omega (
+      arith,
+      signed_arith,
+      here,
+      within,
+      day_count-later_year date.year (pos y) (omega (arith, signed_arith, year_in)) lt,
+      days_from_civil-day_count date.year date.month date.day,
+      e,
+    )
 
 from-first : (date : Date) (first : ℕ) → first ≤ day_count date.year 1 1 → (pos first -ℤ pos 4_371_953) ≤ℤ epoch_day date
 from-first date first h =
@@ -47,11 +57,13 @@ from-first date first h =
     let here = day_count-day_of_year date.year date.month date.day day_in.0 in
     omega (arith, signed_arith, here, h, day_in.0, days_from_civil-day_count date.year date.month date.day)
 
-pub from-year : (date : Date) (y first : ℕ) → day_count (pos y) 1 1 ≡ first → pos y ≤ℤ date.year → (pos first -ℤ pos 4_371_953) ≤ℤ epoch_day date
+pub from-year : (date : Date) (y first : ℕ) → day_count (pos y) 1 1 ≡ first → pos y ≤ℤ date.year
+    → (pos first -ℤ pos 4_371_953) ≤ℤ epoch_day date
 from-year date y first e ge =
     by_lt_z (pos y) date.year
     (λ lt. from-first date first (omega (arith, signed_arith, e, day_count-later_year (pos y) date.year (omega (arith, signed_arith)) lt)))
-    (λ le. let is : date.year ≡ pos y = omega (arith, signed_arith, ge, le) in from-first date first (omega (arith, e, ap (λ (year : ℤ). day_count year 1 1) is)))
+    (λ le. let is : date.year ≡ pos y = omega (arith, signed_arith, ge, le) in
+    from-first date first (omega (arith, e, ap (λ (year : ℤ). day_count year 1 1) is)))
 
 pub nineteen : day_count (pos 1900) 1 1 ≡ 4_346_386
 unfolding day_count days_of_years days_of_months
@@ -105,9 +117,11 @@ module _ (x : ℤ) (h : IsClockBack x) (z : PlainZoned) (shows : Shows z (utc_ti
       let date = z.datetime.date in
       let local = local-is z (utc_time x) shows in
       let from : pos 1970 ≤ℤ date.year =
-      by_lt_z date.year (pos 1970) (λ lt. absurd (omega (arith, signed_arith, before-year date 1970 4_371_953 (omega arith) seventy lt, local, low))) (λ ge. ge) in
+      by_lt_z date.year (pos 1970)
+      (λ lt. absurd (omega (arith, signed_arith, before-year date 1970 4_371_953 (omega arith) seventy lt, local, low))) (λ ge. ge) in
       let to : date.year <ℤ pos 2100 =
-      by_lt_z date.year (pos 2100) (λ lt. lt) (λ ge. absurd (omega (arith, signed_arith, from-year date 2100 4_419_435 next ge, local, high))) in
+      by_lt_z date.year (pos 2100) (λ lt. lt)
+      (λ ge. absurd (omega (arith, signed_arith, from-year date 2100 4_419_435 next ge, local, high))) in
       let some = one_part date.year in
       let month_in = date.month_in in
       let first_year : 1970 ≤ unsigned_abs date.year = omega (arith, signed_arith, some, from) in
@@ -120,7 +134,8 @@ module _ (x : ℤ) (h : IsClockBack x) (z : PlainZoned) (shows : Shows z (utc_ti
   civil =
       seconds-from (local_time z).date (local_time z).clock (pos 0) x
       (subst (λ (o : ℤ). civil_instant (local_time z).date (local_time z).clock o ≡ Some x) shows.offset_is
-      (local-instant z x (four-digits-from z (utc_time x) shows (record { in_years = (omega (arith, signed_arith, h.0), omega (arith, signed_arith, h.1)); minutes = refl })) shows.instant))
+      (local-instant z x (four-digits-from z (utc_time x) shows
+      (record { in_years = (omega (arith, signed_arith, h.0), omega (arith, signed_arith, h.1)); minutes = refl })) shows.instant))
 
   whole :
       seconds_after (civil_seconds (first_of (unsigned_abs z.datetime.date.year) z.datetime.date.month) midnight (pos 0))
@@ -136,23 +151,27 @@ module _ (x : ℤ) (h : IsClockBack x) (z : PlainZoned) (shows : Shows z (utc_ti
   filled today = rw shown-month (ap (λ (s : ℤ). Some s) whole)
 
   filled-of : (today : LocalTime) → filled_seconds today (all_fields (shown_of x)) ≡ Some x
-  filled-of today = subst (λ (l : LocalTime). filled_seconds today (all_fields l) ≡ Some x) (clock_is_shown z (utc_time x) shows) (filled today)
+  filled-of today =
+      subst (λ (l : LocalTime). filled_seconds today (all_fields l) ≡ Some x) (clock_is_shown z (utc_time x) shows) (filled today)
 
 -- what a clock shows at these seconds: a month from 1900 on, and a date and a clock that come to them
 pub record IsClockOf (x : ℤ) (c : LocalTime) : Type 0 where
   pub month : is_shown_month c.date.year c.date.month ≡ true
-  pub seconds : seconds_after (civil_seconds (first_of c.date.year c.date.month) midnight (pos 0)) (Some c.date.day) c.clock.hour c.clock.minute c.clock.second ≡ x
+  pub seconds : seconds_after (civil_seconds (first_of c.date.year c.date.month) midnight (pos 0)) (Some c.date.day) c.clock.hour
+      c.clock.minute c.clock.second ≡ x
 
 pub clock-is : (x : ℤ) → IsClockBack x → IsClockOf x (shown_of x)
 clock-is x h =
-    let found = shown-by (utc_time x) ((omega (arith, signed_arith), omega (arith, signed_arith)), (omega (arith, signed_arith, h.0), h.1)) in
+    let found =
+    shown-by (utc_time x) ((omega (arith, signed_arith), omega (arith, signed_arith)), (omega (arith, signed_arith, h.0), h.1)) in
     subst (λ (l : LocalTime). IsClockOf x l) (clock_is_shown found.0 (utc_time x) found.1)
     (record { month = shown-month x h found.0 found.1; seconds = whole x h found.0 found.1 })
 
 -- all that a clock shows comes to its seconds, whatever today is
 pub filled-back : (x : ℤ) (today : LocalTime) → IsClockBack x → filled_seconds today (all_fields (shown_of x)) ≡ Some x
 filled-back x today h =
-    let found = shown-by (utc_time x) ((omega (arith, signed_arith), omega (arith, signed_arith)), (omega (arith, signed_arith, h.0), h.1)) in
+    let found =
+    shown-by (utc_time x) ((omega (arith, signed_arith), omega (arith, signed_arith)), (omega (arith, signed_arith, h.0), h.1)) in
     filled-of x h found.0 found.1 today
 
 not-before : (m : ℕ) → nat_lt m m ≡ false
@@ -169,7 +188,8 @@ filled-today x h = same-fields (shown_of x) ∙ filled-back x (shown_of x) h
 pub shown-back : (x : ℤ) → IsClockBack x → clock_shown_at x ≡ Some (shown_of x)
 unfolding clock_shown_at
 shown-back x h =
-    let is : is_shown x ≡ true = join _ _ (z_holds first_of_year_1900 x h.0) (z_holds x last_of_year_9999 (omega (arith, signed_arith, h.1))) in
+    let is : is_shown x ≡ true =
+    join _ _ (z_holds first_of_year_1900 x h.0) (z_holds x last_of_year_9999 (omega (arith, signed_arith, h.1))) in
     ap (λ (b : Bool). cond b (Some (shown_of x)) None) is
 
 -- no clock of UTC shows second 60
@@ -183,5 +203,7 @@ no-leap x =
 pub known-month : (x : ℤ) → pos 0 ≤ℤ x → x <ℤ pos 4_102_444_800 → is_month (shown_of x).date.year (shown_of x).date.month ≡ true
 known-month x low high =
     let h : IsClockBack x = (omega (arith, signed_arith, low), omega (arith, signed_arith, high)) in
-    let found = shown-by (utc_time x) ((omega (arith, signed_arith), omega (arith, signed_arith)), (omega (arith, signed_arith, h.0), h.1)) in
-    subst (λ (l : LocalTime). is_month l.date.year l.date.month ≡ true) (clock_is_shown found.0 (utc_time x) found.1) (git-month x h found.0 found.1 low high)
+    let found =
+    shown-by (utc_time x) ((omega (arith, signed_arith), omega (arith, signed_arith)), (omega (arith, signed_arith, h.0), h.1)) in
+    subst (λ (l : LocalTime). is_month l.date.year l.date.month ≡ true) (clock_is_shown found.0 (utc_time x) found.1)
+    (git-month x h found.0 found.1 low high)

@@ -25,13 +25,15 @@ any-token n (Letters run) more = tt
 any-token n (Digits run) more = tt
 any-token n (Mark byte) more = tt
 
-pub rule-short : (now : Now) (n : ℕ) (f : Fields) (t : Token) (more : List Token) → length more ≤ n → Leaves (λ ts. length ts ≤ n) (λ left. Unit {0}) (rule now f t more)
+pub rule-short : (now : Now) (n : ℕ) (f : Fields) (t : Token) (more : List Token) → length more ≤ n
+    → Leaves (λ ts. length ts ≤ n) (λ left. Unit {0}) (rule now f t more)
 rule-short now n f t more h = rule-left (λ ts. length ts ≤ n) (λ left. Unit {0}) (short-kept n) now f t more (any-token n t more) h
 
 enough-then : (now : Now) (n m : ℕ) (r : Reading) (left : ℕ) (step : Stepped) → Leaves (λ ts. length ts ≤ n) (λ place. Unit {0}) step
     → Leaves (λ ts. length ts ≤ m) (λ place. Unit {0}) step
     → ((other : Reading) (rest : List Token) → length rest ≤ n → length rest ≤ m → steps now n other rest ≡ steps now m other rest)
-    → and_then step (λ next. steps now n (read_on r left next.0) next.1) ≡ and_then step (λ next. steps now m (read_on r left next.0) next.1)
+    → and_then step (λ next. steps now n (read_on r left next.0) next.1)
+    ≡ and_then step (λ next. steps now m (read_on r left next.0) next.1)
 enough-then now n m r left (Err e) h g same = refl
 enough-then now n m r left (Ok found) h g same = same (read_on r left found.0) found.1 h g
 

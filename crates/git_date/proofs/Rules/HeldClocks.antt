@@ -21,10 +21,12 @@ pub utc_showable : (s : ℤ) → IsBetween first_of_year_1900 last_of_year_9999 
 utc_showable s within = record { in_years = (omega (arith, signed_arith, within), omega (arith, signed_arith, within)); offset = lit< tt }
 
 pub is-instant : (n : ℕ) → n ≤ 253_402_207_200 → is_instant (pos n) ≡ true
-is-instant n h = join _ _ (z_holds first_second (pos n) (omega (arith, signed_arith))) (z_holds (pos n) last_second (omega (arith, signed_arith)))
+is-instant n h =
+    join _ _ (z_holds first_second (pos n) (omega (arith, signed_arith))) (z_holds (pos n) last_second (omega (arith, signed_arith)))
 
 pub no-instant : (n : ℕ) → 253_402_207_200 < n → is_instant (pos n) ≡ false
-no-instant n h = false_from_ne_true (is_instant (pos n)) (λ e. absurd (let in_range = instant_holds (pos n) e in omega (arith, signed_arith)))
+no-instant n h =
+    false_from_ne_true (is_instant (pos n)) (λ e. absurd (let in_range = instant_holds (pos n) e in omega (arith, signed_arith)))
 
 pub no_clock : (n : ℕ) → 253_402_207_200 < n → None ≡ utc_clock n
 unfolding utc_clock

@@ -1,5 +1,6 @@
 -- Where a text ends, and what is said up to there.
-use Rattle.std.proofs.Common.{◌≡◌, ◌∙◌, ◌≤◌, ◌<◌, ◌+◌, ℕ, nat_lt, Bool, true, false, cond, List, [], ◌∷◌, ◌++◌, length, take, get_or, refl, ap, sym, arith, Option, Some, None, Result, Ok, Err}
+use Rattle.std.proofs.Common.{◌≡◌, ◌∙◌, ◌≤◌, ◌<◌, ◌+◌, ℕ, nat_lt, Bool, true, false, cond, List, [], ◌∷◌, ◌++◌, length, take, get_or, refl}
+use Rattle.std.proofs.Common.{ap, sym, arith, Option, Some, None, Result, Ok, Err}
 use Rattle.std.specs.Prelude.{◌==◌, ◌||◌, not}
 use Rattle.std.specs.Char.{is_ascii_alphabetic, is_ascii_digit}
 use Rattle.std.specs.List.{list_any}
@@ -42,7 +43,8 @@ pub holds_one : (text : List ℕ) → list_any (λ byte. byte == nul) text ≡ t
 holds_one [] h = absurd cc
 holds_one (c ∷ text) h = by (c == nul) h (λ any. holds_one text any)
   where
-    by : (b : Bool) → (b || list_any (λ byte. byte == nul) text) ≡ true → (list_any (λ byte. byte == nul) text ≡ true → string_len text < length text)
+    by : (b : Bool) → (b || list_any (λ byte. byte == nul) text) ≡ true
+        → (list_any (λ byte. byte == nul) text ≡ true → string_len text < length text)
         → first_len b (string_len text) < length (c ∷ text)
     by true h rest = omega arith
     by false h rest = let less = rest h in omega (arith, less)
@@ -52,7 +54,8 @@ pub same-len : (text more : List ℕ) → string_len text < length text → stri
 same-len [] more h = absurd (omega arith)
 same-len (c ∷ text) more h = by (c == nul) h (λ less. same-len text more less)
   where
-    by : (b : Bool) → first_len b (string_len text) < length (c ∷ text) → (string_len text < length text → string_len (text ++ more) ≡ string_len text)
+    by : (b : Bool) → first_len b (string_len text) < length (c ∷ text)
+        → (string_len text < length text → string_len (text ++ more) ≡ string_len text)
         → first_len b (string_len (text ++ more)) ≡ first_len b (string_len text)
     by true h same = refl
     by false h same = ap (λ (n : ℕ). 1 + n) (same (omega (arith, h)))
@@ -62,7 +65,8 @@ pub longer-len : (text more : List ℕ) → string_len text ≡ length text → 
 longer-len [] more h = omega arith
 longer-len (c ∷ text) more h = by (c == nul) h (λ all. longer-len text more all)
   where
-    by : (b : Bool) → first_len b (string_len text) ≡ length (c ∷ text) → (string_len text ≡ length text → string_len (text ++ more) ≡ length text + string_len more)
+    by : (b : Bool) → first_len b (string_len text) ≡ length (c ∷ text)
+        → (string_len text ≡ length text → string_len (text ++ more) ≡ length text + string_len more)
         → first_len b (string_len (text ++ more)) ≡ length (c ∷ text) + string_len more
     by true h longer = absurd (omega (arith, h))
     by false h longer = let rest = longer (omega (arith, h)) in omega (arith, rest)
@@ -72,7 +76,8 @@ byte-is : (text : List ℕ) → string_len text < length text → get_or text (s
 byte-is [] h = refl
 byte-is (c ∷ text) h = by (c == nul) refl h (λ less. byte-is text less)
   where
-    by : (b : Bool) → (c == nul) ≡ b → first_len b (string_len text) < length (c ∷ text) → (string_len text < length text → get_or text (string_len text) 0 ≡ 0)
+    by : (b : Bool) → (c == nul) ≡ b → first_len b (string_len text) < length (c ∷ text)
+        → (string_len text < length text → get_or text (string_len text) 0 ≡ 0)
         → get_or (c ∷ text) (first_len b (string_len text)) 0 ≡ 0
     by true e h rest = grind (arith, nat_tests, e)
     by false e h rest = rw one-add (rest (omega (arith, h)))
@@ -95,7 +100,8 @@ digit-nul c ts = refl
 abbrev byte_by : Bool → Bool → ℕ → List Token → List Token
 byte_by letter digit c ts = cond letter (letter_before c ts) (cond digit (digit_before c ts) (Mark c ∷ ts))
 
-none-first : (letter digit : Bool) (c : ℕ) (ts : List Token) → is_ascii_alphabetic c ≡ letter → is_ascii_digit c ≡ digit → has_nul (byte_by letter digit c ts) ≡ false
+none-first : (letter digit : Bool) (c : ℕ) (ts : List Token) → is_ascii_alphabetic c ≡ letter → is_ascii_digit c ≡ digit
+    → has_nul (byte_by letter digit c ts) ≡ false
     → ((c == nul) ≡ false) × (has_nul ts ≡ false)
 none-first true digit c ts e f h = (grind (arith, nat_tests, e), sym (letter-nul c ts) ∙ h)
 none-first false true c ts e f h = (grind (arith, nat_tests, f), sym (digit-nul c ts) ∙ h)
@@ -145,7 +151,8 @@ unfolding said_by
 whole-said now text e =
     (λ i. said_up_to (no_place text e i) (string_said now (all_stand_before text e i))) ∙ all-said (string_said now text)
 
-pub whole-guess : (zone : States) (now : Now) (text : List ℕ) → string_len text ≡ length text → guess zone now text ≡ string_guess zone now text
+pub whole-guess : (zone : States) (now : Now) (text : List ℕ) → string_len text ≡ length text
+    → guess zone now text ≡ string_guess zone now text
 unfolding guess
 whole-guess zone now text e =
     (λ i. answer_up_to (no_place text e i) (string_guess zone now (all_stand_before text e i))) ∙ all-answered (string_guess zone now text)

@@ -1,5 +1,6 @@
 -- What the tables of modes and of zones say, behind references or not.
-use Rattle.std.proofs.Common.{◌≡◌, ◌∙◌, ◌≤◌, ◌<◌, ◌+◌, ◌-◌, ℕ, zero, suc, nat_le, Bool, true, false, cond, List, [], ◌∷◌, length, take, drop, get_or, drop-drop, map, refl, ap, sym, subst, arith, Option, Some, None, Bor, ℤ, option_map}
+use Rattle.std.proofs.Common.{◌≡◌, ◌∙◌, ◌≤◌, ◌<◌, ◌+◌, ◌-◌, ℕ, zero, suc, nat_le, Bool, true, false, cond, List, [], ◌∷◌, length, take}
+use Rattle.std.proofs.Common.{drop, get_or, drop-drop, map, refl, ap, sym, subst, arith, Option, Some, None, Bor, ℤ, option_map}
 use Rattle.std.specs.Char.{to_ascii_lowercase}
 use Rattle.std.specs.Prelude.{◌==◌, ◌&&◌, ◌||◌, not}
 use Rattle.std.specs.Str.{bytes_eq}
@@ -44,7 +45,8 @@ and-no x c = refl
 
 no-initial : (a : ℕ) (word name : List ℕ) → has_initial (to_ascii_lowercase a) name ≡ false → is_zone_name (a ∷ word) name ≡ false
 no-initial a word [] e = and-no (nat_le 3 (length (a ∷ word))) (nat_le (length (a ∷ word)) 0)
-no-initial a word (c ∷ name) e = by (to_ascii_lowercase a == to_ascii_lowercase c) (is_name word name) (is_name word (take (length word) name)) e
+no-initial a word (c ∷ name) e =
+    by (to_ascii_lowercase a == to_ascii_lowercase c) (is_name word name) (is_name word (take (length word) name)) e
   where
     by : (same x y : Bool) → same ≡ false
         → ((same && x) || (nat_le 3 (length (a ∷ word)) && (nat_le (length (a ∷ word)) (length (c ∷ name)) && (same && y)))) ≡ false
@@ -69,7 +71,8 @@ module _ (a : ℕ) (word : List ℕ) where
   skipped : (rows : List (List ℕ × ℤ)) (n : ℕ) → list_all other (take n rows) ≡ true → find told rows ≡ find told (drop n rows)
   skipped rows zero h = refl
   skipped [] (suc n) h = refl
-  skipped (row ∷ rows) (suc n) h = let both = and_parts (other row) (list_all other (take n rows)) h in rw (untold row both.0) (skipped rows n both.1)
+  skipped (row ∷ rows) (suc n) h = let both = and_parts (other row) (list_all other (take n rows)) h in
+      rw (untold row both.0) (skipped rows n both.1)
 
   trimmed : (rows : List (List ℕ × ℤ)) (n : ℕ) → list_all other (drop n rows) ≡ true → find told rows ≡ find told (take n rows)
   trimmed rows zero h = none-told rows h
@@ -108,7 +111,8 @@ unfolding zone_named zone_held AreZones
 zone_is [] rows first end some h e same = absurd (omega arith)
 zone_is (a ∷ word) rows first end some h e same =
     let part : map plain (take (end - first) (drop first rows)) ≡ take (end - first) (drop first zone_rows) =
-    sym (take-map plain (end - first) (drop first rows)) ∙ ap (take (end - first)) (sym (drop-map plain first rows) ∙ ap (drop first) same) in
+    sym (take-map plain (end - first) (drop first rows))
+    ∙ ap (take (end - first)) (sym (drop-map plain first rows) ∙ ap (drop first) same) in
     held HeldZone (List ℕ × ℤ) ℤ plain (λ (row : List ℕ × ℤ). is_zone_name (a ∷ word) row.0) minutes (take (end - first) (drop first rows))
     ∙ ap (λ (found : Option (List ℕ × ℤ)). option_map minutes found)
     (ap (find (λ (row : List ℕ × ℤ). is_zone_name (a ∷ word) row.0)) part ∙ sym (stands-between a word first end h e))

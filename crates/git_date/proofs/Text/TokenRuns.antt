@@ -1,5 +1,6 @@
 -- What stands first among the tokens of a text.
-use Rattle.std.proofs.Common.{◌≡◌, ◌<◌, ◌≤◌, ℕ, ◌+◌, Bool, true, false, cond, List, [], ◌∷◌, length, take, drop, get_or, refl, ap, sym, ◌∙◌, arith}
+use Rattle.std.proofs.Common.{◌≡◌, ◌<◌, ◌≤◌, ℕ, ◌+◌, Bool, true, false, cond, List, [], ◌∷◌, length, take, drop, get_or, refl, ap, sym, ◌∙◌}
+use Rattle.std.proofs.Common.{arith}
 use Rattle.std.proofs.Math.ListN.{length-append}
 use Rattle.std.proofs.Math.Numerals.{one-add}
 use Rattle.std.proofs.lemmas.Bool.Decides.{nat_tests}
@@ -45,22 +46,28 @@ digit-alone c d x ts = refl
 -- a letter, a digit, a mark first
 pub letter-first : (c : ℕ) (text : List ℕ) → is_ascii_alphabetic c ≡ true → tokens (c ∷ text) ≡ letter_before c (tokens text)
 unfolding tokens
-letter-first c text e = ap (λ b. cond b (letter_before c (tokens text)) (cond (is_ascii_digit c) (digit_before c (tokens text)) (Mark c ∷ tokens text))) e
+letter-first c text e =
+    ap (λ b. cond b (letter_before c (tokens text)) (cond (is_ascii_digit c) (digit_before c (tokens text)) (Mark c ∷ tokens text))) e
 
-other-first : (c : ℕ) (text : List ℕ) → is_ascii_alphabetic c ≡ false → tokens (c ∷ text) ≡ cond (is_ascii_digit c) (digit_before c (tokens text)) (Mark c ∷ tokens text)
+other-first : (c : ℕ) (text : List ℕ) → is_ascii_alphabetic c ≡ false
+    → tokens (c ∷ text) ≡ cond (is_ascii_digit c) (digit_before c (tokens text)) (Mark c ∷ tokens text)
 unfolding tokens
-other-first c text e = ap (λ b. cond b (letter_before c (tokens text)) (cond (is_ascii_digit c) (digit_before c (tokens text)) (Mark c ∷ tokens text))) e
+other-first c text e =
+    ap (λ b. cond b (letter_before c (tokens text)) (cond (is_ascii_digit c) (digit_before c (tokens text)) (Mark c ∷ tokens text))) e
 
 pub digit-first : (c : ℕ) (text : List ℕ) → is_ascii_digit c ≡ true → tokens (c ∷ text) ≡ digit_before c (tokens text)
 digit-first c text e =
     let no : is_ascii_alphabetic c ≡ false = grind (arith, nat_tests, e) in
     other-first c text no ∙ ap (λ b. cond b (digit_before c (tokens text)) (Mark c ∷ tokens text)) e
 
-no-digit-first : (c : ℕ) (text : List ℕ) → is_ascii_digit c ≡ false → tokens (c ∷ text) ≡ cond (is_ascii_alphabetic c) (letter_before c (tokens text)) (Mark c ∷ tokens text)
+no-digit-first : (c : ℕ) (text : List ℕ) → is_ascii_digit c ≡ false
+    → tokens (c ∷ text) ≡ cond (is_ascii_alphabetic c) (letter_before c (tokens text)) (Mark c ∷ tokens text)
 unfolding tokens
-no-digit-first c text e = ap (λ b. cond (is_ascii_alphabetic c) (letter_before c (tokens text)) (cond b (digit_before c (tokens text)) (Mark c ∷ tokens text))) e
+no-digit-first c text e =
+    ap (λ b. cond (is_ascii_alphabetic c) (letter_before c (tokens text)) (cond b (digit_before c (tokens text)) (Mark c ∷ tokens text))) e
 
-pub mark-first : (c : ℕ) (text : List ℕ) → is_ascii_alphabetic c ≡ false → is_ascii_digit c ≡ false → tokens (c ∷ text) ≡ Mark c ∷ tokens text
+pub mark-first : (c : ℕ) (text : List ℕ) → is_ascii_alphabetic c ≡ false → is_ascii_digit c ≡ false
+    → tokens (c ∷ text) ≡ Mark c ∷ tokens text
 mark-first c text e f = other-first c text e ∙ ap (λ b. cond b (digit_before c (tokens text)) (Mark c ∷ tokens text)) f
 
 -- what a run is, by the test at its end
@@ -73,7 +80,8 @@ letters-by c d text n false e f run =
     ∙ ap (λ ts. Letters (c ∷ []) ∷ ts) (sym (other-first d text f))
 
 letters-run : (c : ℕ) (text : List ℕ) → is_ascii_alphabetic c ≡ true
-    → tokens (c ∷ text) ≡ Letters (c ∷ take (prefix_len is_ascii_alphabetic text) text) ∷ tokens (drop (prefix_len is_ascii_alphabetic text) text)
+    → tokens (c ∷ text)
+    ≡ Letters (c ∷ take (prefix_len is_ascii_alphabetic text) text) ∷ tokens (drop (prefix_len is_ascii_alphabetic text) text)
 unfolding tokens
 letters-run c [] e = letter-first c [] e
 letters-run c (d ∷ text) e = letters-by c d text (prefix_len is_ascii_alphabetic text) (is_ascii_alphabetic d) e refl (letters-run d text)
@@ -101,24 +109,29 @@ whole p C c text k n false e is run = absurd cc
 
 pub letters-whole : (c : ℕ) (text : List ℕ) (n : ℕ) → is_ascii_alphabetic c ≡ true → n ≡ prefix_len is_ascii_alphabetic (c ∷ text)
     → tokens (c ∷ text) ≡ Letters (take n (c ∷ text)) ∷ tokens (drop n (c ∷ text))
-letters-whole c text n e is = whole is_ascii_alphabetic Letters c text (prefix_len is_ascii_alphabetic text) n (is_ascii_alphabetic c) e is (letters-run c text e)
+letters-whole c text n e is =
+    whole is_ascii_alphabetic Letters c text (prefix_len is_ascii_alphabetic text) n (is_ascii_alphabetic c) e is (letters-run c text e)
 
 pub digits-whole : (c : ℕ) (text : List ℕ) (n : ℕ) → is_ascii_digit c ≡ true → n ≡ prefix_len is_ascii_digit (c ∷ text)
     → tokens (c ∷ text) ≡ Digits (take n (c ∷ text)) ∷ tokens (drop n (c ∷ text))
-digits-whole c text n e is = whole is_ascii_digit Digits c text (prefix_len is_ascii_digit text) n (is_ascii_digit c) e is (digits-run c text e)
+digits-whole c text n e is =
+    whole is_ascii_digit Digits c text (prefix_len is_ascii_digit text) n (is_ascii_digit c) e is (digits-run c text e)
 
 -- the same of a text that is not empty, as the code has it
-pub letters_front : (text : List ℕ) (n : ℕ) (run rest : List ℕ) → 1 ≤ length text → is_ascii_alphabetic (get_or text 0 0) ≡ true → n ≡ prefix_len is_ascii_alphabetic text
+pub letters_front : (text : List ℕ) (n : ℕ) (run rest : List ℕ) → 1 ≤ length text → is_ascii_alphabetic (get_or text 0 0) ≡ true
+    → n ≡ prefix_len is_ascii_alphabetic text
     → run ≡ take n text → rest ≡ drop n text → tokens text ≡ Letters run ∷ tokens rest
 letters_front [] n run rest h e is f g = absurd (omega arith)
 letters_front (c ∷ text) n run rest h e is f g = rw (f, g) (letters-whole c text n e is)
 
-pub digits_front : (text : List ℕ) (n : ℕ) (run rest : List ℕ) → 1 ≤ length text → is_ascii_digit (get_or text 0 0) ≡ true → n ≡ prefix_len is_ascii_digit text
+pub digits_front : (text : List ℕ) (n : ℕ) (run rest : List ℕ) → 1 ≤ length text → is_ascii_digit (get_or text 0 0) ≡ true
+    → n ≡ prefix_len is_ascii_digit text
     → run ≡ take n text → rest ≡ drop n text → tokens text ≡ Digits run ∷ tokens rest
 digits_front [] n run rest h e is f g = absurd (omega arith)
 digits_front (c ∷ text) n run rest h e is f g = rw (f, g) (digits-whole c text n e is)
 
-pub mark_front : (text rest : List ℕ) → 1 ≤ length text → is_ascii_alphabetic (get_or text 0 0) ≡ false → is_ascii_digit (get_or text 0 0) ≡ false
+pub mark_front : (text rest : List ℕ) → 1 ≤ length text → is_ascii_alphabetic (get_or text 0 0) ≡ false
+    → is_ascii_digit (get_or text 0 0) ≡ false
     → rest ≡ drop 1 text → tokens text ≡ Mark (get_or text 0 0) ∷ tokens rest
 mark_front [] rest h e f g = absurd (omega arith)
 mark_front (c ∷ text) rest h e f g = rw g (mark-first c text e f)

@@ -56,7 +56,8 @@ IsSkipped text n = (n ≡ white (tokens text)) × (tokens (drop n text) ≡ with
 skipped-by : (c : ℕ) (text : List ℕ) (n : ℕ) (b : Bool) → is_white_byte c ≡ b → IsSkipped text n → IsSkipped (c ∷ text) (cond b (1 + n) 0)
 skipped-by c text n true e h =
     let more : white (tokens (c ∷ text)) ≡ 1 + white (tokens text) = ap white (mark c text e) ∙ white-by (Mark c) (tokens text) true e in
-    let rest : without_white (tokens (c ∷ text)) ≡ without_white (tokens text) = ap without_white (mark c text e) ∙ without-by (Mark c) (tokens text) true e in
+    let rest : without_white (tokens (c ∷ text)) ≡ without_white (tokens text) = ap without_white (mark c text e)
+    ∙ without-by (Mark c) (tokens text) true e in
     (ap (λ (n : ℕ). 1 + n) h.0 ∙ sym more, rw one-add (h.1 ∙ sym rest))
 skipped-by c text n false e h = (sym (solid c text e).0, sym (solid c text e).1)
 

@@ -12,5 +12,7 @@ use Rattle.git_date.specs.Exact.Zones.{nearest, flagged_at, searched, found_offs
 -- for proofs about literal texts: `unfolding computing approximating` below a signature lets `guess` compute, for a
 -- written-out text, a zone by cases and a moment in numerals
 unfoldable pub approximating : Type 0
-unfolding walked draft_of string_guess guess clock_shown_at first_second filled_seconds settle meaning_rule approximate_letters_rule approximate_digits_rule moment_named count_named unit_named weekday_told meaning_of nearest flagged_at searched found_offset shown_in found_at filled_instant filled_time moved_to fill
+unfolding walked draft_of string_guess guess clock_shown_at first_second filled_seconds settle meaning_rule approximate_letters_rule
+    approximate_digits_rule moment_named count_named unit_named weekday_told meaning_of nearest flagged_at searched found_offset shown_in
+    found_at filled_instant filled_time moved_to fill
 approximating = Unit {0}

@@ -1,5 +1,6 @@
 -- What an approximate text says so far, and its number that waits for a word to say what it counts.
-use Rattle.std.specs.Prelude.{ℕ, ℤ, pos, ◌+◌, ◌-◌, ◌*◌, ◌/◌, ◌%◌, Bool, false, ◌&&◌, max, min, nat_le, nat_lt, if◌then◌else◌, Option, Some, None, is_none, option_map}
+use Rattle.std.specs.Prelude.{ℕ, ℤ, pos, ◌+◌, ◌-◌, ◌*◌, ◌/◌, ◌%◌, Bool, false, ◌&&◌, max, min, nat_le, nat_lt, if◌then◌else◌, Option, Some}
+use Rattle.std.specs.Prelude.{None, is_none, option_map}
 use Rattle.std.specs.Option.{option_map_or}
 use Rattle.gix_date.specs.Fields.ClockNumbers.{seconds_per_day}
 use Rattle.gix_date.specs.Text.Front.{◌>>=◌}

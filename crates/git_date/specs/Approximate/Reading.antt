@@ -1,5 +1,6 @@
 -- The approximate reader: one token after the other, and what the whole text comes to.
-use Rattle.std.specs.Prelude.{◌≡◌, ℕ, Bool, true, false, List, length, pos, if◌then◌else◌, Option, Some, None, IfSome, Result, Ok, Err, option_map}
+use Rattle.std.specs.Prelude.{◌≡◌, ℕ, Bool, true, false, List, length, pos, if◌then◌else◌, Option, Some, None, IfSome, Result, Ok, Err}
+use Rattle.std.specs.Prelude.{option_map}
 use Rattle.std.specs.Int.Signed.{le_z}
 use Rattle.std.specs.Option.{option_or}
 use Rattle.jiff.specs.Words.{zoned_nanos}
@@ -32,7 +33,8 @@ Read = Result (Draft × List Token) Fault
 
 -- the rule of a token: marks say nothing
 abbrev pub approximate_rule : States → Today → Draft → Token → List Token → Read
-approximate_rule zone today d (Letters run) more = and_then (approximate_letters_rule zone today.shown.clock d run more) (λ next. Ok (next, more))
+approximate_rule zone today d (Letters run) more =
+    and_then (approximate_letters_rule zone today.shown.clock d run more) (λ next. Ok (next, more))
 approximate_rule zone today d (Digits run) more = ended (approximate_digits_rule today.now d run more)
 approximate_rule zone today d (Mark byte) more = Ok (d, more)
 

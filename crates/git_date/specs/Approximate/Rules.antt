@@ -2,7 +2,8 @@
 use Rattle.std.specs.Prelude.{ℕ, Bool, true, false, ◌||◌, List, ◌∷◌, pos, ◌==◌, if◌then◌else◌, Option, Some, None, Result, Ok, Err, ok_or}
 use Rattle.gix_date.specs.Fields.ClockNumbers.{seconds_per_day}
 use Rattle.gix_date.specs.Text.Characters.{digit_zero}
-use Rattle.git_date.specs.Approximate.Drafts.{ignore, settle, dropped, without_number, with_hour, is_before, half, units, weekday_seconds, less_months}
+use Rattle.git_date.specs.Approximate.Drafts.{ignore, settle, dropped, without_number, with_hour, is_before, half, units, weekday_seconds}
+use Rattle.git_date.specs.Approximate.Drafts.{less_months}
 use Rattle.git_date.specs.Approximate.Words.{meaning_of}
 use Rattle.git_date.specs.Approximate.Zones.{fill, moved_to}
 use Rattle.git_date.specs.Exact.Zones.{States}

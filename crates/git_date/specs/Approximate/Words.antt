@@ -41,6 +41,7 @@ unit_named word = option_map (λ row. row.1) (find (λ row. is_unit word row.0) 
 -- what a word says, if it is known; no word is in two of these tables
 unfoldable pub meaning_of : List ℕ → Option Meaning
 meaning_of word =
-    let weekday_or_unit = option_or (option_map (λ day. meaning.Unit (Weekday day)) (weekday_told word)) (option_map meaning.Unit (unit_named word)) in
+    let weekday_or_unit =
+    option_or (option_map (λ day. meaning.Unit (Weekday day)) (weekday_told word)) (option_map meaning.Unit (unit_named word)) in
     let counted = option_or (option_map Count (count_named word)) weekday_or_unit in
     option_or (option_map Month (month_told word)) (option_or (moment_named word) counted)

@@ -2,7 +2,7 @@
 use Rattle.std.specs.Prelude.{ℕ, ◌+◌, ◌*◌, ◌/◌, ◌%◌, min, ℤ, pos, neg_ℤ, int_lt, unsigned_abs, if◌then◌else◌}
 use Rattle.gix_date.specs.Fields.ClockNumbers.{hours_in, minutes_in}
 use Rattle.git_date.specs.Exact.ZoneTexts.{distance}
-use Rattle.git_date.specs.declared.zones.texts.TheConstants.{WIDEST}
+use Rattle.git_date.specs.declared.zone_texts.TheConstants.{WIDEST}
 
 -- so far on the side of zero where a number lies
 abbrev pub with_sign : ℤ → ℕ → ℤ

@@ -1,7 +1,8 @@
 -- What usual texts say, which are recognised at once.
 use Rattle.std.specs.Char.{is_ascii_digit}
 use Rattle.std.specs.List.{count_by, list_all, list_any}
-use Rattle.std.specs.Prelude.{◌≡◌, ◌<◌, ◌≤◌, ℕ, ◌%◌, Bool, not, ◌&&◌, ◌||◌, ◌==◌, nat_lt, true, false, ◌⊎◌, decimal, List, [], ◌∷◌, ◌++◌, ℤ, pos, negsuc, ◌*ℤ◌, unsigned_abs, Some, None, Ok}
+use Rattle.std.specs.Prelude.{◌≡◌, ◌<◌, ◌≤◌, ℕ, ◌%◌, Bool, not, ◌&&◌, ◌||◌, ◌==◌, nat_lt, true, false, ◌⊎◌, decimal, List, [], ◌∷◌, ◌++◌, ℤ}
+use Rattle.std.specs.Prelude.{pos, negsuc, ◌*ℤ◌, unsigned_abs, Some, None, Ok}
 use Rattle.gix_date.specs.Fields.FieldTexts.{four_digits, clock_text}
 use Rattle.gix_date.specs.Fields.DateOffsets.{strict_offset_text}
 use Rattle.gix_date.specs.Fields.Offsets.{compact_offset_text}

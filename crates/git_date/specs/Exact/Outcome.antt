@@ -1,5 +1,6 @@
 -- What a text comes to in a zone.
-use Rattle.std.specs.Prelude.{◌≡◌, ◌<◌, ℕ, ℤ, List, length, IsCharBoundary, pos, ◌-ℤ◌, ◌*ℤ◌, true, if◌then◌else◌, Option, Some, None, IfSome, Result, Ok, Err, int_div}
+use Rattle.std.specs.Prelude.{◌≡◌, ◌<◌, ℕ, ℤ, List, length, IsCharBoundary, pos, ◌-ℤ◌, ◌*ℤ◌, true, if◌then◌else◌, Option, Some, None}
+use Rattle.std.specs.Prelude.{IfSome, Result, Ok, Err, int_div}
 use Rattle.std.specs.Int.Signed.{le_z}
 use Rattle.std.specs.Option.{is_some}
 use Rattle.jiff.specs.Types.{TimeZone}

@@ -1,5 +1,6 @@
 -- Where the zone stands that a value of `TZ` means, and which zone a text or a file means: as the C library has it.
-use Rattle.std.specs.Prelude.{◌≡◌, ◌||◌, ◌&&◌, ◌==◌, ◌++◌, ◌+◌, ◌*◌, not, nat_le, ℕ, Bool, true, false, List, [], ◌∷◌, length, drop, is_some, Option, Some, None, Result, Ok, Err, IsOk, codes, if◌then◌else◌}
+use Rattle.std.specs.Prelude.{◌≡◌, ◌||◌, ◌&&◌, ◌==◌, ◌++◌, ◌+◌, ◌*◌, not, nat_le, ℕ, Bool, true, false, List, [], ◌∷◌, length, drop}
+use Rattle.std.specs.Prelude.{is_some, Option, Some, None, Result, Ok, Err, IsOk, codes, if◌then◌else◌}
 use Rattle.std.specs.Option.{option_or}
 use Rattle.std.specs.Str.{bytes_eq}
 use Rattle.gix_date.specs.Text.Characters.{colon}
@@ -13,10 +14,10 @@ use Rattle.jiff_tz.specs.Tzif.{tzif_view, IsParseFailure, IsRefused}
 use Rattle.jiff_tz.specs.TzifReader.{header_at, read_tzif}
 use Rattle.jiff_tz.specs.declared.tzif.Tzif.{Tzif}
 use Rattle.git_date.specs.Rules.Groups.{slash}
-use Rattle.git_date.specs.declared.zones.texts.TheConstants.{MACHINE_ZONE, MAX_DATELESS, US_DATES, ZONE_FOLDER}
-use Rattle.git_date.specs.declared.zones.texts.TheConstants.{HEADER_LEN}
-use Rattle.git_date.specs.declared.zones.texts.TableError.{TableError}
-use Rattle.git_date.specs.declared.zones.texts.TableError.TheVariants.{OutOfMemory, NotTzif, CountsLeapSeconds}
+use Rattle.git_date.specs.declared.zone_texts.TheConstants.{MACHINE_ZONE, MAX_DATELESS, US_DATES, ZONE_FOLDER}
+use Rattle.git_date.specs.declared.zone_texts.TheConstants.{HEADER_LEN}
+use Rattle.git_date.specs.declared.zone_texts.TableError.{TableError}
+use Rattle.git_date.specs.declared.zone_texts.TableError.TheVariants.{OutOfMemory, NotTzif, CountsLeapSeconds}
 
 -- a colon in front of a value of `TZ` says nothing
 abbrev pub without_colon : List ℕ → List ℕ

@@ -1,5 +1,6 @@
 -- The reader: one token after the other, and what the whole text says.
-use Rattle.std.specs.Prelude.{ℕ, ◌-◌, Bool, true, false, List, ◌∷◌, length, ℤ, pos, ◌==◌, if◌then◌else◌, Option, Some, None, Result, Ok, Err, option_map}
+use Rattle.std.specs.Prelude.{ℕ, ◌-◌, Bool, true, false, List, ◌∷◌, length, ℤ, pos, ◌==◌, if◌then◌else◌, Option, Some, None, Result, Ok}
+use Rattle.std.specs.Prelude.{Err, option_map}
 use Rattle.std.specs.Option.{option_or}
 use Rattle.gix_date.specs.Text.Characters.{plus, minus}
 use Rattle.gix_date.specs.Fields.Zoned.{is_instant}

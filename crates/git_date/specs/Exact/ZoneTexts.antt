@@ -5,7 +5,7 @@ use Rattle.gix_date.specs.Fields.ClockNumbers.{seconds_per_minute, seconds_per_h
 use Rattle.gix_date.specs.Text.Characters.{plus, minus, colon}
 use Rattle.gix_date.specs.Text.Front.{◌>>=◌}
 use Rattle.gix_date.specs.Text.Numbers.{two_digit_value}
-use Rattle.git_date.specs.declared.zones.texts.TheConstants.{MAX_HOURS, MAX_MINUTES}
+use Rattle.git_date.specs.declared.zone_texts.TheConstants.{MAX_HOURS, MAX_MINUTES}
 
 -- hours and minutes in seconds
 abbrev pub distance : ℕ → ℕ → ℕ

@@ -3,11 +3,16 @@ use Rattle.std.specs.Prelude.{ℕ, List, [], ◌∷◌, codes, if◌then◌else�
 use Rattle.std.specs.Option.{option_or}
 use Rattle.std.specs.Str.{bytes_eq}
 use Rattle.git_date.specs.declared.format.directives.Name.{Name}
-use Rattle.git_date.specs.declared.format.directives.Name.TheVariants.{ShortDay, LongDay, ShortMonth, LongMonth, HalfDay, SmallHalfDay, LineFeed, Tab}
+use Rattle.git_date.specs.declared.format.directives.Name.TheVariants.{ShortDay, LongDay, ShortMonth, LongMonth, HalfDay, SmallHalfDay}
+use Rattle.git_date.specs.declared.format.directives.Name.TheVariants.{LineFeed, Tab}
 use Rattle.git_date.specs.declared.format.numbers.Number.{Number}
-use Rattle.git_date.specs.declared.format.numbers.Number.TheVariants.{Century, YearOfCentury, Year, Month, Day, SpacedDay, DayOfYear, Hour, SpacedHour, HourOfHalf, SpacedHourOfHalf, Minute, Second, DayFromMonday, DayFromSunday, WeekFromSunday, WeekFromMonday, IsoWeek, IsoYear, IsoYearOfCentury}
+use Rattle.git_date.specs.declared.format.numbers.Number.TheVariants.{Century, YearOfCentury, Year, Month, Day, SpacedDay, DayOfYear, Hour}
+use Rattle.git_date.specs.declared.format.numbers.Number.TheVariants.{SpacedHour, HourOfHalf, SpacedHourOfHalf, Minute, Second}
+use Rattle.git_date.specs.declared.format.numbers.Number.TheVariants.{DayFromMonday, DayFromSunday, WeekFromSunday, WeekFromMonday, IsoWeek}
+use Rattle.git_date.specs.declared.format.numbers.Number.TheVariants.{IsoYear, IsoYearOfCentury}
 use Rattle.git_date.specs.declared.format.directives.Composite.{Composite}
-use Rattle.git_date.specs.declared.format.directives.Composite.TheVariants.{DateAndClock, SlashedDate, IsoDate, ClockOfHalf, ShortClock, Clock}
+use Rattle.git_date.specs.declared.format.directives.Composite.TheVariants.{DateAndClock, SlashedDate, IsoDate, ClockOfHalf, ShortClock}
+use Rattle.git_date.specs.declared.format.directives.Composite.TheVariants.{Clock}
 use Rattle.git_date.specs.declared.format.directives.Directive.{Directive}
 use Rattle.git_date.specs.declared.format.directives.Directive.TheVariants as directive
 use Rattle.git_date.specs.declared.format.directives.Plain.{Plain}

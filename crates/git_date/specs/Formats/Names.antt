@@ -3,25 +3,13 @@ use Rattle.std.specs.Prelude.{ℕ, ◌-◌, nat_lt, get_or, List, [], ◌∷◌,
 use Rattle.std.specs.Char.{to_ascii_uppercase, to_ascii_lowercase}
 use Rattle.gix_date.specs.Fields.Layout.{LocalTime}
 use Rattle.gix_date.specs.Text.Characters.{newline}
-use Rattle.gix_date.specs.Text.LongNames.{long_month_names}
-use Rattle.gix_date.specs.Text.Names.{day_name, month_name}
+use Rattle.gix_date.specs.Text.Names.{day_name, month_name, whole_day_name, whole_month_name}
 use Rattle.git_date.specs.declared.format.directives.Name.{Name}
-use Rattle.git_date.specs.declared.format.directives.Name.TheVariants.{ShortDay, LongDay, ShortMonth, LongMonth, HalfDay, SmallHalfDay, LineFeed, Tab}
+use Rattle.git_date.specs.declared.format.directives.Name.TheVariants.{ShortDay, LongDay, ShortMonth, LongMonth, HalfDay, SmallHalfDay}
+use Rattle.git_date.specs.declared.format.directives.Name.TheVariants.{LineFeed, Tab}
 use Rattle.git_date.specs.declared.format.names.Case.{Case}
 use Rattle.git_date.specs.declared.format.names.Case.TheVariants.{Kept, Upper, Lower}
 use Rattle.git_date.specs.declared.format.flags.Flags.{Flags}
-
--- the names of days, from Monday
-abbrev pub whole_day_names : List (List ℕ)
-whole_day_names =
-    codes "Monday" ∷ codes "Tuesday" ∷ codes "Wednesday" ∷ codes "Thursday" ∷ codes "Friday" ∷ codes "Saturday"
-    ∷ codes "Sunday" ∷ []
-
-abbrev pub whole_day_name : ℕ → List ℕ
-whole_day_name weekday = get_or whole_day_names weekday []
-
-abbrev pub whole_month_name : ℕ → List ℕ
-whole_month_name month = get_or long_month_names (month - 1) []
 
 -- the half of the day, of which the second begins at noon
 abbrev pub half_day : ℕ → List ℕ

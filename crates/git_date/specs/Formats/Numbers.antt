@@ -3,7 +3,10 @@ use Rattle.std.specs.Prelude.{ℕ, ◌+◌, ◌-◌, ◌/◌, ◌%◌, Bool, tru
 use Rattle.jiff_core.specs.Calendar.{day_of_year, days_in_year}
 use Rattle.gix_date.specs.Fields.Layout.{LocalTime}
 use Rattle.git_date.specs.declared.format.numbers.Number.{Number}
-use Rattle.git_date.specs.declared.format.numbers.Number.TheVariants.{Century, YearOfCentury, Year, Month, Day, SpacedDay, DayOfYear, Hour, SpacedHour, HourOfHalf, SpacedHourOfHalf, Minute, Second, DayFromMonday, DayFromSunday, WeekFromSunday, WeekFromMonday, IsoWeek, IsoYear, IsoYearOfCentury}
+use Rattle.git_date.specs.declared.format.numbers.Number.TheVariants.{Century, YearOfCentury, Year, Month, Day, SpacedDay, DayOfYear, Hour}
+use Rattle.git_date.specs.declared.format.numbers.Number.TheVariants.{SpacedHour, HourOfHalf, SpacedHourOfHalf, Minute, Second}
+use Rattle.git_date.specs.declared.format.numbers.Number.TheVariants.{DayFromMonday, DayFromSunday, WeekFromSunday, WeekFromMonday, IsoWeek}
+use Rattle.git_date.specs.declared.format.numbers.Number.TheVariants.{IsoYear, IsoYearOfCentury}
 use Rattle.git_date.specs.declared.format.numbers.IsoDay.{IsoDay as TheIsoDay}
 
 abbrev pub year_days : ℕ → ℕ

@@ -1,5 +1,6 @@
 -- The pieces of a format.
-use Rattle.std.specs.Prelude.{ℕ, zero, suc, ◌+◌, ◌-◌, ◌==◌, Bool, nat_lt, List, [], ◌∷◌, length, take, drop, if◌then◌else◌, Option, Some, None, option_map, Result, Ok, Err}
+use Rattle.std.specs.Prelude.{ℕ, zero, suc, ◌+◌, ◌-◌, ◌==◌, Bool, nat_lt, List, [], ◌∷◌, length, take, drop, if◌then◌else◌, Option, Some}
+use Rattle.std.specs.Prelude.{None, option_map, Result, Ok, Err}
 use Rattle.std.specs.Char.{is_ascii_digit}
 use Rattle.std.specs.List.{prefix_len, position_or_len, slice_get}
 use Rattle.std.specs.Result.{result_map_both, result_unwrap_or, result_err, is_ok}

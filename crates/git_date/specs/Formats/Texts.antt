@@ -6,7 +6,8 @@ use Rattle.git_date.specs.Rules.Groups.{slash}
 use Rattle.git_date.specs.declared.format.directives.Name.{Name}
 use Rattle.git_date.specs.declared.format.directives.Name.TheVariants.{ShortDay, ShortMonth, HalfDay}
 use Rattle.git_date.specs.declared.format.numbers.Number.{Number}
-use Rattle.git_date.specs.declared.format.numbers.Number.TheVariants.{YearOfCentury, Year, Month, Day, SpacedDay, Hour, HourOfHalf, Minute, Second}
+use Rattle.git_date.specs.declared.format.numbers.Number.TheVariants.{YearOfCentury, Year, Month, Day, SpacedDay, Hour, HourOfHalf, Minute}
+use Rattle.git_date.specs.declared.format.numbers.Number.TheVariants.{Second}
 use Rattle.git_date.specs.declared.format.directives.Composite.{Composite}
 use Rattle.git_date.specs.declared.format.directives.Composite.TheVariants as composite
 use Rattle.git_date.specs.declared.format.directives.Directive.{Directive}
@@ -45,7 +46,8 @@ abbrev pub number_zeros : Number → Flags → Bool
 number_zeros number_inner flags = zeros_by flags.pad (is_spaced number_inner)
 
 abbrev pub number_text : Number → Flags → LocalTime → List ℕ
-number_text number_inner flags t = filled (number_zeros number_inner flags) (number_width number_inner flags) (decimal (number_value number_inner t))
+number_text number_inner flags t =
+    filled (number_zeros number_inner flags) (number_width number_inner flags) (decimal (number_value number_inner t))
 
 -- the marks of composites
 abbrev pub mark_code : Mark → ℕ

@@ -1,5 +1,6 @@
 -- What digits say: an epoch, a group, or by their width a date, a clock, an offset, a year, a day or a month.
-use Rattle.std.specs.Prelude.{ℕ, ◌+◌, ◌*◌, ◌/◌, ◌%◌, Bool, ◌&&◌, ◌||◌, List, ◌∷◌, length, pos, true, ◌==◌, nat_le, nat_lt, if◌then◌else◌, Option, Some, None, Result, Ok, Err, is_some, is_none, ok_or, option_map}
+use Rattle.std.specs.Prelude.{ℕ, ◌+◌, ◌*◌, ◌/◌, ◌%◌, Bool, ◌&&◌, ◌||◌, List, ◌∷◌, length, pos, true, ◌==◌, nat_le, nat_lt, if◌then◌else◌}
+use Rattle.std.specs.Prelude.{Option, Some, None, Result, Ok, Err, is_some, is_none, ok_or, option_map}
 use Rattle.std.specs.Option.{option_or, option_map_or}
 use Rattle.git_date.specs.Tokens.Tokens.{Token, Digits, bytes_left}
 use Rattle.git_date.specs.Tokens.Numbers.{number, is_too_large}

@@ -1,5 +1,6 @@
 -- Ages: how long ago a time was, in one unit.
-use Rattle.std.specs.Prelude.{ℕ, ◌+◌, ◌*◌, ◌/◌, ◌%◌, ◌==◌, nat_lt, List, [], ◌∷◌, ◌++◌, codes, decimal, ℤ, pos, ◌-ℤ◌, unsigned_abs, ◌||◌, if◌then◌else◌, Option, Some, None, Result, Ok, Err}
+use Rattle.std.specs.Prelude.{ℕ, ◌+◌, ◌*◌, ◌/◌, ◌%◌, ◌==◌, nat_lt, List, [], ◌∷◌, ◌++◌, codes, decimal, ℤ, pos, ◌-ℤ◌, unsigned_abs, ◌||◌}
+use Rattle.std.specs.Prelude.{if◌then◌else◌, Option, Some, None, Result, Ok, Err}
 use Rattle.std.specs.Int.Signed.{lt_z}
 use Rattle.gix_date.specs.Text.Characters.{space}
 use Rattle.git_date.specs.declared.error.DateError.{DateError}

@@ -1,5 +1,6 @@
 -- Dates as Git shows an identity line's own: by the clock of the line, with the offset as the line writes it.
-use Rattle.std.specs.Prelude.{ℕ, ◌/◌, ◌%◌, nat_lt, List, [], ◌∷◌, ◌++◌, Bool, true, false, ◌||◌, ℤ, pos, neg_ℤ, unsigned_abs, if◌then◌else◌, Option, Some, None, Result, Ok, Err}
+use Rattle.std.specs.Prelude.{ℕ, ◌/◌, ◌%◌, nat_lt, List, [], ◌∷◌, ◌++◌, Bool, true, false, ◌||◌, ℤ, pos, neg_ℤ, unsigned_abs, if◌then◌else◌}
+use Rattle.std.specs.Prelude.{Option, Some, None, Result, Ok, Err}
 use Rattle.std.specs.Fmt.{decimal}
 use Rattle.std.specs.Int.Signed.{lt_z}
 use Rattle.std.specs.Option.{ok_or}
@@ -8,14 +9,15 @@ use Rattle.gix_date.specs.Text.Characters.{space, colon, comma}
 use Rattle.gix_date.specs.Text.Numbers.{two_digits, decimal_text}
 use Rattle.gix_date.specs.Text.Names.{day_name, month_name}
 use Rattle.gix_date.specs.Fields.FieldTexts.{four_digits, clock_text}
-use Rattle.gix_date.specs.Fields.Layout.{LocalTime, Piece, Rfc2822DayName, MonthName, Day, Year, PlainDate, Clock, Spaces, LetterT, print_pieces}
+use Rattle.gix_date.specs.Fields.Layout.{LocalTime, Piece, Rfc2822DayName, MonthName, Day, Year, PlainDate, Clock, Spaces, LetterT}
+use Rattle.gix_date.specs.Fields.Layout.{print_pieces}
 use Rattle.gix_date.specs.Fields.Offsets.{offset_sign}
 use Rattle.gix_date.specs.Printing.LocalClocks.{clock_of, local_seconds, last_of_year_9999}
 use Rattle.gix_date.specs.Printing.NamedTexts.{short_text, bare_default_text}
 use Rattle.gix_date.specs.declared.time.Time.{Time}
 use Rattle.gix_signature.specs.Ident.Times.{time_of_git}
 use Rattle.gix_signature.specs.declared.error.IdentFault.{IdentFault}
-use Rattle.gix_signature.specs.declared.ident.time.GitTime.{GitTime}
+use Rattle.gix_signature.specs.declared.ident.GitTime.{GitTime}
 use Rattle.git_date.specs.Exact.Decimals.{decimal_of_offset}
 use Rattle.git_date.specs.Show.Ages.{relative_text}
 use Rattle.git_date.specs.Show.Clocks.{Moment, zone_clock}
@@ -143,5 +145,6 @@ own_date_shown_by kind now t = own_clock_shown kind t
 unfoldable pub own_date_shown : Moment → DateMode → GitTime → Result (List ℕ) OwnDateError
 own_date_shown now mode t =
     if lt_z t.seconds (pos 0) then Err BeforeEpoch
-    else (if mode.local || is_without_offset mode.kind then ok_or (shown_by mode.kind now mode.local (record { seconds = t.seconds; offset = pos 0 })) Range
+    else (if mode.local
+    || is_without_offset mode.kind then ok_or (shown_by mode.kind now mode.local (record { seconds = t.seconds; offset = pos 0 })) Range
     else own_date_shown_by mode.kind now t)

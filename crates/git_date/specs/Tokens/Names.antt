@@ -1,5 +1,6 @@
 -- Words that name a day of the week, and those that name a zone, by their beginnings.
-use Rattle.std.specs.Prelude.{◌≡◌, ◌-◌, map, ℕ, ◌*◌, ◌==◌, Bool, false, not, ◌&&◌, ◌||◌, List, take, drop, [], ◌∷◌, ℤ, pos, neg_ℤ, codes, Option, option_map, is_some}
+use Rattle.std.specs.Prelude.{◌≡◌, ◌-◌, map, ℕ, ◌*◌, ◌==◌, Bool, false, not, ◌&&◌, ◌||◌, List, take, drop, [], ◌∷◌, ℤ, pos, neg_ℤ, codes}
+use Rattle.std.specs.Prelude.{Option, option_map, is_some}
 use Rattle.std.specs.Borrow.{Bor}
 use Rattle.std.specs.List.{find, list_all}
 use Rattle.std.specs.Char.{to_ascii_lowercase}

@@ -58,7 +58,8 @@ token_of (slice.Mark byte) = Mark byte
 
 -- So many steps over tokens, or as many as there are: each makes something of a token, takes what it needs of the next, and goes
 -- on, or does not.
-unfoldable pub walked : {S E : Type 0} → (S → Token → List Token → (S → List Token → Result S E) → Result S E) → ℕ → S → List Token → Result S E
+unfoldable pub walked : {S E : Type 0} → (S → Token → List Token → (S → List Token → Result S E) → Result S E) → ℕ → S → List Token
+    → Result S E
 walked step n s [] = Ok s
 walked step zero s (t ∷ more) = Ok s
 walked step (suc n) s (t ∷ more) = step s t more (λ next rest. walked step n next rest)

@@ -176,7 +176,8 @@ pub(crate) fn letters_rule(
     run: &[u8],
     text: &[u8],
 ) -> Drafted
-    ensures { result ≡ Spec.approximate_letters_rule (Spec.states_of (GixDate.zone_of moment.entry)) today draft run.now (Spec.tokens text.now) }
+    ensures { result
+        ≡ Spec.approximate_letters_rule (Spec.states_of (GixDate.zone_of moment.entry)) today draft run.now (Spec.tokens text.now) }
 {
     let left = left_from(run, text);
     if matches!(next_token(text), Some((Token::Digits(_), _))) {

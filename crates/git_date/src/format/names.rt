@@ -1,12 +1,11 @@
 //! The names that a clock shows, and their letter case.
-ghost use Rattle.std.specs.Prelude.{◌≡◌, ◌≤◌, ◌<◌, length};
-ghost use Rattle.std.specs.Int.{IsInRange};
+ghost use Rattle.std.specs.Prelude.{◌≡◌, ◌≤◌, length};
 ghost use Rattle.git_date.specs as Spec;
 
 use crate::format::directives::Name;
 use crate::format::flags::Flags;
 use gix_date::clock::Clock;
-use gix_date::names::{day_name, month_name};
+use gix_date::names::{day_name, month_name, whole_day_name, whole_month_name};
 
 /// The letter case of a name.
 #[derive(Clone, Copy)]
@@ -14,45 +13,6 @@ pub(crate) enum Case {
     Kept,
     Upper,
     Lower,
-}
-
-fn whole_day_name(weekday: u8) -> &'static str
-    requires { weekday < 7 }
-    ensures name { result.now ≡ Spec.whole_day_name weekday }
-    ensures len { length result.now ≤ 9 }
-{
-    match weekday {
-        0 => "Monday",
-        1 => "Tuesday",
-        2 => "Wednesday",
-        3 => "Thursday",
-        4 => "Friday",
-        5 => "Saturday",
-        6 => "Sunday",
-        _ => unreachable!(),
-    }
-}
-
-fn whole_month_name(month: u8) -> &'static str
-    requires { IsInRange 1 12 month }
-    ensures name { result.now ≡ Spec.whole_month_name month }
-    ensures len { length result.now ≤ 9 }
-{
-    match month {
-        1 => "January",
-        2 => "February",
-        3 => "March",
-        4 => "April",
-        5 => "May",
-        6 => "June",
-        7 => "July",
-        8 => "August",
-        9 => "September",
-        10 => "October",
-        11 => "November",
-        12 => "December",
-        _ => unreachable!(),
-    }
 }
 
 impl Name {

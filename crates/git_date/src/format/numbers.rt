@@ -4,7 +4,7 @@ ghost use Rattle.std.specs.Int.{IsInRange};
 ghost use Rattle.git_date.specs as Spec;
 
 use gix_date::clock::Clock;
-use jiff_core::civil::{days_in_month, is_leap_year};
+use jiff_core::civil::{Date, is_leap_year};
 
 /// A number that a clock shows.
 #[derive(Clone, Copy)]
@@ -81,15 +81,15 @@ fn year_days(year: u16) -> u16
 }
 
 /// The day of the year, from 1.
+#[tactic(auto, using(std::proofs::lemmas::Int::ints, gix_date::proofs::Text::Ints::held, jiff_core::proofs::SignedLemmas::signed_arith), unfolding(crate::specs::year_day))]
 fn year_day(t: Clock) -> u16
     ensures value { result ≡ Spec.year_day t }
     ensures small { IsInRange 1 403 result }
 {
-    let mut days = u16::from(t.day());
-    'months: for month in 1..t.month() {
-        days += u16::from(days_in_month(t.year() as i16, month));
-    }
-    days
+    let Ok(first) = Date::new(t.year() as i16, t.month() as i8, 1) else {
+        unreachable!();
+    };
+    first.day_of_year() + u16::from(t.day()) - 1
 }
 
 /// The day of the week from 1 for Monday.

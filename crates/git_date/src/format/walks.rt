@@ -170,7 +170,8 @@ pub(crate) fn push_short<const CAP: usize>(
     shown: &Shown,
 ) -> bool
     ensures whole { IsTrue result → Spec.is_format text.now ≡ true }
-    ensures shown { IsTrue result → out.new.bytes ≡ out.old.bytes ++ Spec.pieces_text (Spec.shown_of shown.now) (Spec.pieces_or_none text.now) }
+    ensures shown { IsTrue result → out.new.bytes
+        ≡ out.old.bytes ++ Spec.pieces_text (Spec.shown_of shown.now) (Spec.pieces_or_none text.now) }
 {
     let mut rest = text;
     'pieces: while !rest.is_empty() {
@@ -185,9 +186,11 @@ pub(crate) fn push_short<const CAP: usize>(
 /// Puts the texts of the pieces into a sink.
 fn put_pieces<W: Sink>(text: &str, shown: &Shown, out: &mut W) -> Result<(), io::ErrorKind>
     requires { Spec.is_format text.now ≡ true }
-    ensures ok { OnOk result (GixDate.Takes (W.known out.old) (W.known out.new) (Spec.pieces_text (Spec.shown_of shown.now) (Spec.pieces_or_none text.now))) }
+    ensures ok { OnOk result
+        (GixDate.Takes (W.known out.old) (W.known out.new) (Spec.pieces_text (Spec.shown_of shown.now) (Spec.pieces_or_none text.now))) }
     ensures cut { OnErr result
-        (GixDate.TakesProperPrefix (W.known out.old) (W.known out.new) (Spec.pieces_text (Spec.shown_of shown.now) (Spec.pieces_or_none text.now))) }
+        (GixDate.TakesProperPrefix (W.known out.old) (W.known out.new)
+        (Spec.pieces_text (Spec.shown_of shown.now) (Spec.pieces_or_none text.now))) }
     ensures fault { IfErr result (λ kind. (W.known out.new).fault ≡ Some kind) }
 {
     let mut rest = text;
@@ -204,7 +207,8 @@ fn put_pieces<W: Sink>(text: &str, shown: &Shown, out: &mut W) -> Result<(), io:
 /// Appends the texts of the pieces.
 fn push_pieces(text: &str, shown: &Shown, out: &mut String) -> Result<(), AllocError>
     requires { Spec.is_format text.now ≡ true }
-    ensures { OnOk result (string_bytes out.new ≡ string_bytes out.old ++ Spec.pieces_text (Spec.shown_of shown.now) (Spec.pieces_or_none text.now)) }
+    ensures { OnOk result
+        (string_bytes out.new ≡ string_bytes out.old ++ Spec.pieces_text (Spec.shown_of shown.now) (Spec.pieces_or_none text.now)) }
 {
     let mut rest = text;
     'pieces: while !rest.is_empty() {
@@ -224,9 +228,11 @@ pub(crate) fn put_shown<W: Sink>(
     out: &mut W,
 ) -> Result<(), io::ErrorKind>
     requires { Spec.is_format text.now ≡ true }
-    ensures ok { OnOk result (GixDate.Takes (W.known out.old) (W.known out.new) (Spec.pieces_text (Spec.shown_of shown.now) (Spec.pieces_or_none text.now))) }
+    ensures ok { OnOk result
+        (GixDate.Takes (W.known out.old) (W.known out.new) (Spec.pieces_text (Spec.shown_of shown.now) (Spec.pieces_or_none text.now))) }
     ensures cut { OnErr result
-        (GixDate.TakesProperPrefix (W.known out.old) (W.known out.new) (Spec.pieces_text (Spec.shown_of shown.now) (Spec.pieces_or_none text.now))) }
+        (GixDate.TakesProperPrefix (W.known out.old) (W.known out.new)
+        (Spec.pieces_text (Spec.shown_of shown.now) (Spec.pieces_or_none text.now))) }
     ensures fault { IfErr result (λ kind. (W.known out.new).fault ≡ Some kind) }
 {
     let mut short = ShortText::new();
@@ -240,7 +246,8 @@ pub(crate) fn put_shown<W: Sink>(
 /// Appends what a whole format shows.
 pub(crate) fn push_shown(text: &str, shown: &Shown, out: &mut String) -> Result<(), AllocError>
     requires { Spec.is_format text.now ≡ true }
-    ensures { OnOk result (string_bytes out.new ≡ string_bytes out.old ++ Spec.pieces_text (Spec.shown_of shown.now) (Spec.pieces_or_none text.now)) }
+    ensures { OnOk result
+        (string_bytes out.new ≡ string_bytes out.old ++ Spec.pieces_text (Spec.shown_of shown.now) (Spec.pieces_or_none text.now)) }
 {
     let mut short = ShortText::new();
     if push_short(&mut short, text, shown) {

@@ -7,6 +7,7 @@ ghost use Rattle.gix_date.specs as GixDate;
 use crate::mode::DateKind;
 use crate::show::DateText;
 use arrayvec::ArrayString;
+use gix_date::Time;
 use gix_date::clock::{
     Clock, push_bare_default, push_date, push_git_rfc2822, push_iso8601, push_iso8601_strict,
     push_offset,
@@ -53,12 +54,16 @@ pub(crate) fn unix_text(seconds: i64) -> DateText
     text
 }
 
-/// The seconds in decimal, and ` +hhmm`.
+/// The header text of a time: the seconds in decimal, and ` +hhmm`.
+#[tactic(auto, unfolding(gix_date::specs::header_text))]
 pub(crate) fn raw_text(seconds: i64, offset: i32) -> DateText
     requires { unsigned_abs offset < GixDate.hundred_hours }
     ensures { result.bytes ≡ Spec.raw_text seconds offset }
 {
-    let mut text = unix_text(seconds);
-    push_offset(&mut text, offset);
+    let Ok(header) = Time::new(seconds, offset).to_buf() else {
+        unreachable!();
+    };
+    let mut text = ArrayString::new();
+    text.push_str(header.as_str());
     text
 }

@@ -11,7 +11,7 @@ use crate::mode::{DateKind, DateMode};
 use crate::show::ages::relative_text;
 use crate::show::human::{Distance, distance_of, few_days_text, human_text};
 use crate::show::{DateText, show_date_at};
-use crate::zones::texts::decimal_of_offset;
+use crate::zone_texts::decimal_of_offset;
 use arrayvec::ArrayString;
 use gix_date::Time;
 use gix_date::clock::{

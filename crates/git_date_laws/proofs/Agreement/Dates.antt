@@ -1,11 +1,14 @@
 -- Formatted dates, as the exact reader reads them.
 use Rattle.std.specs.Prelude.{◌&&◌}
-use Rattle.std.proofs.Common.{◌≡◌, ◌≤◌, ◌≤ℤ◌, ℕ, pos, List, [], ◌∷◌, ◌++◌, Option, Some, None, refl, ◌∙◌, ap, sym, subst, append_assoc, arith, nat_le}
+use Rattle.std.proofs.Common.{◌≡◌, ◌≤◌, ◌≤ℤ◌, ℕ, pos, List, [], ◌∷◌, ◌++◌, Option, Some, None, refl, ◌∙◌, ap, sym, subst, append_assoc}
+use Rattle.std.proofs.Common.{arith, nat_le}
 use Rattle.gix_date.specs.Families.Answer.{Absolute}
-use Rattle.gix_date.specs.Families.Patterns.{IsMeaning, rfc2822_layout, iso8601_layout, iso8601_strict_layout, gitoxide_layout, default_layout, time_answer}
+use Rattle.gix_date.specs.Families.Patterns.{IsMeaning, rfc2822_layout, iso8601_layout, iso8601_strict_layout, gitoxide_layout}
+use Rattle.gix_date.specs.Families.Patterns.{default_layout, time_answer}
 use Rattle.gix_date.proofs.Fields.FieldsRead.{Begins, begins-append, field-begins, year-begins, name-begins}
 use Rattle.gix_date.specs.Fields.FieldTexts.{AreThreeLetters, IsPlainDate, IsYear}
-use Rattle.gix_date.specs.Fields.Layout.{LocalTime, LocalDate, Piece, DayName, MonthName, Day, Year, PlainDate, Clock, Rfc2822Clock, Spaces, Offset, Rfc2822Offset, BeginsWith, ArePieces}
+use Rattle.gix_date.specs.Fields.Layout.{LocalTime, LocalDate, Piece, DayName, MonthName, Day, Year, PlainDate, Clock, Rfc2822Clock, Spaces}
+use Rattle.gix_date.specs.Fields.Layout.{Offset, Rfc2822Offset, BeginsWith, ArePieces}
 use Rattle.std.specs.Char.{is_ascii_alphabetic, is_ascii_digit}
 use Rattle.git_date.proofs.Text.TokenRuns.{digit-first, letter-first}
 use Rattle.git_date.specs.Rules.Offsets.{at_text}
@@ -19,7 +22,8 @@ use Rattle.git_date.specs.Types.Names.{Fields, Now}
 use Rattle.git_date.specs.Rules.Words.{without_ending}
 use Rattle.git_date_laws.proofs.Agreement.Fields.{IsOf, AreFields, time-of, fields-of, IsSpaced, free-rest, at-most, sixty-nine}
 use Rattle.git_date_laws.proofs.Agreement.Mail.{mail-clock-part, prefix-part, zone-part}
-use Rattle.git_date_laws.proofs.Agreement.Parts.{all_of, gap-part, gap-first, day-part, year-part, clock-part, date-part, offset-part, letter-part, clock-first, colon-part, month-part, weekday-part}
+use Rattle.git_date_laws.proofs.Agreement.Parts.{all_of, gap-part, gap-first, day-part, year-part, clock-part, date-part, offset-part}
+use Rattle.git_date_laws.proofs.Agreement.Parts.{letter-part, clock-first, colon-part, month-part, weekday-part}
 use Rattle.git_date_laws.proofs.Agreement.Steps.{Goes}
 use Rattle.std.proofs.lemmas.Bool.{and_parts}
 use Rattle.std.proofs.lemmas.Int.{by_lt_z}
@@ -66,7 +70,8 @@ module _ (now : Now) (t : Time) (l : LocalTime) (is : IsOf l t) (f : AreFields l
   none-told Rfc2822Clock g a = a
   none-told p g a = absurd a
 
-  part : (p : Piece) (g : Fields) (M : List ℕ → Type 0) (text : List ℕ) (b : BeginsWith p l M text) → Asks p g → HasNoLeapSecond text → IsSpaced (tokens b.rest)
+  part : (p : Piece) (g : Fields) (M : List ℕ → Type 0) (text : List ℕ) (b : BeginsWith p l M text) → Asks p g → HasNoLeapSecond text
+      → IsSpaced (tokens b.rest)
       → Goes now t (told p g) (tokens b.rest) → Goes now t g (tokens text)
   part Day g M text b a free s go = day-part now t l is f late M text g b s a.0 a.1 go
   part MonthName g M text b a free s go = month-part now t l is f late M text g b s a go
@@ -75,7 +80,8 @@ module _ (now : Now) (t : Time) (l : LocalTime) (is : IsOf l t) (f : AreFields l
       let dated = with_date unknown l.date.year l.date.month l.date.day in
       let known = subst (λ (g : Fields). Goes now t (told PlainDate g) (tokens b.rest)) a go in
       subst (λ (g : Fields). Goes now t g (tokens text)) (sym a)
-      (date-part now t l is f late M text b (subst HasNoDigits (sym s.is) tt) (subst (Goes now t dated) (sym (spaced-kept (tokens b.rest) s)) known))
+      (date-part now t l is f late M text b (subst HasNoDigits (sym s.is) tt)
+      (subst (Goes now t dated) (sym (spaced-kept (tokens b.rest) s)) known))
   part Clock g M text b a free s go = clock-part now t l is f late M text g b space s.more free s.is refl a go
   part Rfc2822Clock g M text b a free s go = mail-clock-part now t l is f late M text g b free s a go
   part p g M text b a free s go = absurd a
@@ -86,7 +92,8 @@ module _ (now : Now) (t : Time) (l : LocalTime) (is : IsOf l t) (f : AreFields l
   Known (p ∷ ps) g = Asks p g × Known ps (told p g)
 
   module _ (last : List Piece) (end : (text : List ℕ) → ArePieces last l text → Goes now t (all_of l) (tokens text)) where
-    chain : (ps : List Piece) (g : Fields) (text : List ℕ) → Known ps g → ArePieces (spaced ps last) l text → HasNoLeapSecond text → Goes now t g (tokens text)
+    chain : (ps : List Piece) (g : Fields) (text : List ℕ) → Known ps g → ArePieces (spaced ps last) l text → HasNoLeapSecond text
+        → Goes now t g (tokens text)
     chain [] g text k h free = subst (λ (g : Fields). Goes now t g (tokens text)) (sym k) (end text h)
     chain (p ∷ ps) g text k h free =
         let gap = h.more in
@@ -95,14 +102,16 @@ module _ (now : Now) (t : Time) (l : LocalTime) (is : IsOf l t) (f : AreFields l
         (gap-part now t l is f late _ h.rest (told p g) gap (none-told p g k.0) (chain ps (told p g) gap.rest k.1 gap.more after))
 
     -- after the name of a day, which may tell any month
-    named : (ps : List Piece) (text : List ℕ) → ((month : Option ℕ) → Known ps (record unknown { month = month })) → ArePieces (DayName ∷ Spaces ∷ spaced ps last) l text
+    named : (ps : List Piece) (text : List ℕ) → ((month : Option ℕ) → Known ps (record unknown { month = month }))
+        → ArePieces (DayName ∷ Spaces ∷ spaced ps last) l text
         → HasNoLeapSecond text → Goes now t unknown (tokens text)
     named ps text k h free =
         let gap = h.more in
         let s = gap-first now t l is f late _ h.rest gap in
         let after = free-rest h.rest gap.front gap.rest (free-rest text h.front h.rest free h.whole) gap.whole in
         weekday-part now t l is f late _ text h space s.more s.is
-        (λ any. gap-part now t l is f late _ h.rest (record unknown { month = any }) gap refl (chain ps (record unknown { month = any }) gap.rest (k any) gap.more after))
+        (λ any. gap-part now t l is f late _ h.rest (record unknown { month = any }) gap refl
+        (chain ps (record unknown { month = any }) gap.rest (k any) gap.more after))
 
   digits-end : (text : List ℕ) → ArePieces (Offset ∷ []) l text → Goes now t (all_of l) (tokens text)
   digits-end text h = offset-part now t l is f late _ text h h.more
@@ -111,15 +120,18 @@ module _ (now : Now) (t : Time) (l : LocalTime) (is : IsOf l t) (f : AreFields l
   iso-goes text h free = chain (Offset ∷ []) digits-end (PlainDate ∷ Clock ∷ []) unknown text (refl, (refl, refl)) h free
 
   gitoxide-goes : (text : List ℕ) → ArePieces gitoxide_layout l text → HasNoLeapSecond text → Goes now t unknown (tokens text)
-  gitoxide-goes text h free = named (Offset ∷ []) digits-end (MonthName ∷ Day ∷ Year ∷ Clock ∷ []) text (λ any. (refl, ((refl, refl), (refl, (refl, refl))))) h free
+  gitoxide-goes text h free =
+      named (Offset ∷ []) digits-end (MonthName ∷ Day ∷ Year ∷ Clock ∷ []) text (λ any. (refl, ((refl, refl), (refl, (refl, refl))))) h free
 
   default-goes : (text : List ℕ) → ArePieces default_layout l text → HasNoLeapSecond text → Goes now t unknown (tokens text)
-  default-goes text h free = named (Offset ∷ []) digits-end (MonthName ∷ Day ∷ Clock ∷ Year ∷ []) text (λ any. (refl, ((refl, refl), (refl, (refl, refl))))) h free
+  default-goes text h free =
+      named (Offset ∷ []) digits-end (MonthName ∷ Day ∷ Clock ∷ Year ∷ []) text (λ any. (refl, ((refl, refl), (refl, (refl, refl))))) h free
 
   mail-goes : (text : List ℕ) → ArePieces rfc2822_layout l text → HasNoLeapSecond text → Goes now t unknown (tokens text)
   mail-goes text h free =
       prefix-part now t l is f late _ text h (λ any.
-      chain (Rfc2822Offset ∷ []) (λ text h. zone-part now t l is f late _ text h h.more) (Day ∷ MonthName ∷ Year ∷ Rfc2822Clock ∷ []) (record unknown { month = any }) h.rest
+      chain (Rfc2822Offset ∷ []) (λ text h. zone-part now t l is f late _ text h h.more) (Day ∷ MonthName ∷ Year ∷ Rfc2822Clock ∷ [])
+      (record unknown { month = any }) h.rest
       ((refl, refl), (refl, (refl, (refl, refl)))) h.more (free-rest text h.front h.rest free h.whole))
 
   strict-goes : (text : List ℕ) → ArePieces iso8601_strict_layout l text → HasNoLeapSecond text → Goes now t unknown (tokens text)
@@ -136,7 +148,8 @@ module _ (now : Now) (t : Time) (l : LocalTime) (is : IsOf l t) (f : AreFields l
       (subst (Goes now t dated) (sym after.1) (clock-part now t l is f late _ letter.rest dated clock z.0 z.1 later z.2 z.3 refl z.4))
 
 -- the year of such a date
-pub late-year : (l : LocalTime) (t : Time) → IsOf l t → AreFields l → (x : List ℕ) → IsYear x l.date.year → pos 0 ≤ℤ t.seconds → 1969 ≤ l.date.year
+pub late-year : (l : LocalTime) (t : Time) → IsOf l t → AreFields l → (x : List ℕ) → IsYear x l.date.year → pos 0 ≤ℤ t.seconds
+    → 1969 ≤ l.date.year
 late-year l t is f x h since =
     by_lt_z (pos l.date.year) (pos 1969)
     (λ lt. absurd (
@@ -146,13 +159,28 @@ late-year l t is f x h since =
     let here = day_count-day_of_year y m d f.first_day in
     let fine = and_parts (nat_le 1 m && nat_le m 12 && nat_le 1 d) (nat_le d (days_in_month y m)) is.date in
     let day : d ≤ days_in_month y m = at-most d (days_in_month y m) fine.1 in
-    let within = day_of_year_bound y m d ((omega (arith, signed_arith), omega (arith, signed_arith)), (f.first_month, f.last_month), (f.first_day, day)) in
+    let within = day_of_year_bound y m d
+    ((omega (arith, signed_arith), omega (arith, signed_arith)), (f.first_month, f.last_month), (f.first_day, day)) in
     let civil = is.civil in
     let near = is.within in
     let hour = f.hour in
     let minute = f.minute in
     let second = f.second in
-    omega (arith, signed_arith, here, within, day_count-later_year y (pos 1969) (omega (arith, signed_arith)) lt, days_from_civil-day_count y m d, sixty-nine, civil, near, hour, minute, second, since)))
+    omega (
+      arith,
+      signed_arith,
+      here,
+      within,
+      day_count-later_year y (pos 1969) (omega (arith, signed_arith)) lt,
+      days_from_civil-day_count y m d,
+      sixty-nine,
+      civil,
+      near,
+      hour,
+      minute,
+      second,
+      since,
+    )))
     (λ ge. omega (arith, signed_arith, ge))
 
 -- what begins with a letter or a digit does not begin with `@`
@@ -185,15 +213,26 @@ mail-no-at l text h = grind (arith, number-no-at, begins-append, field-begins, n
 
 -- a layout whose texts are read so, with a year in them
 pub record IsRead (layout : List Piece) : Type 0 where
-  goes : (now : Now) (t : Time) (l : LocalTime) → IsOf l t → AreFields l → 1969 ≤ l.date.year → (text : List ℕ) → ArePieces layout l text → HasNoLeapSecond text → Goes now t unknown (tokens text)
+  goes : (now : Now) (t : Time) (l : LocalTime) → IsOf l t → AreFields l → 1969 ≤ l.date.year → (text : List ℕ) → ArePieces layout l text
+      → HasNoLeapSecond text → Goes now t unknown (tokens text)
   year : (l : LocalTime) (text : List ℕ) → ArePieces layout l text → (x : List ℕ) × IsYear x l.date.year
   no_at : (l : LocalTime) (text : List ℕ) → ArePieces layout l text → at_text (tokens text) ≡ None
 
 pub iso-read : IsRead iso8601_layout
-iso-read = record { goes = λ now t l is f late. iso-goes now t l is f late; year = λ l text h. (_, h.is.is_year); no_at = λ l text h. date-no-at text _ _ l.date h.whole h.is }
+iso-read = record {
+  goes = λ now t l is f late. iso-goes now t l is f late;
+  year = λ l text h. (_, h.is.is_year);
+  no_at =
+      λ l text h. date-no-at text _ _ l.date h.whole h.is;
+}
 
 pub strict-read : IsRead iso8601_strict_layout
-strict-read = record { goes = λ now t l is f late. strict-goes now t l is f late; year = λ l text h. (_, h.is.is_year); no_at = λ l text h. date-no-at text _ _ l.date h.whole h.is }
+strict-read = record {
+  goes = λ now t l is f late. strict-goes now t l is f late;
+  year = λ l text h. (_, h.is.is_year);
+  no_at =
+      λ l text h. date-no-at text _ _ l.date h.whole h.is;
+}
 
 pub gitoxide-read : IsRead gitoxide_layout
 gitoxide-read = record {
@@ -210,12 +249,16 @@ default-read = record {
 }
 
 pub mail-read : IsRead rfc2822_layout
-mail-read = record { goes = λ now t l is f late. mail-goes now t l is f late; year = λ l text h. (_, h.more.more.more.more.more.is); no_at = mail-no-at }
+mail-read = record
+    { goes = λ now t l is f late. mail-goes now t l is f late; year = λ l text h. (_, h.more.more.more.more.more.is); no_at = mail-no-at }
 
 -- so a time of theirs from 1970 on is read
-pub date-reads : (layout : List Piece) → IsRead layout → (now : Now) (t : Time) (text : List ℕ) → pos 0 ≤ℤ t.seconds → HasNoLeapSecond text → IsMeaning layout time_answer text (Absolute t) → Reads now t text
+pub date-reads : (layout : List Piece) → IsRead layout → (now : Now) (t : Time) (text : List ℕ) → pos 0 ≤ℤ t.seconds → HasNoLeapSecond text
+    → IsMeaning layout time_answer text (Absolute t) → Reads now t text
 date-reads layout r now t text since free m =
     let is = time-of m.time t m.comes in
     let f = fields-of m.time is.date is.clock in
-    let y = r.year m.time text m.are in
-    (r.goes now t m.time is f (late-year m.time t is f y.0 y.1 since) text m.are free, no-fit t (at_text (tokens text)) (r.no_at m.time text m.are))
+    let y = r.year m.time text m.are in (
+      r.goes now t m.time is f (late-year m.time t is f y.0 y.1 since) text m.are free,
+      no-fit t (at_text (tokens text)) (r.no_at m.time text m.are),
+    )

@@ -1,5 +1,6 @@
 -- What the exact reader says of the fields of a formatted date.
-use Rattle.std.proofs.Common.{◌≡◌, ◌∙◌, ◌<◌, ◌≤◌, ◌⊎◌, ℕ, pos, unsigned_abs, nat_le, nat_lt, Bool, true, false, cond, List, [], ◌∷◌, ◌++◌, length, Some, refl, ap, sym, subst, arith, append_assoc}
+use Rattle.std.proofs.Common.{◌≡◌, ◌∙◌, ◌<◌, ◌≤◌, ◌⊎◌, ℕ, pos, unsigned_abs, nat_le, nat_lt, Bool, true, false, cond, List, [], ◌∷◌, ◌++◌}
+use Rattle.std.proofs.Common.{length, Some, refl, ap, sym, subst, arith, append_assoc}
 use Rattle.std.specs.Prelude.{◌&&◌, codes}
 use Rattle.std.specs.Char.{is_ascii_alphabetic, is_ascii_digit}
 use Rattle.std.specs.List.{list_all}
@@ -39,8 +40,10 @@ answer-by false x t e = (refl, cc)
 pub time-of : (l : LocalTime) (t : Time) → time_answer l ≡ Some (Absolute t) → IsOf l t
 unfolding date_answer civil_instant
 time-of l t e =
-    let s = went (civil_instant l.date l.clock l.offset) (λ seconds. cond (nat_lt 86_340 (unsigned_abs l.offset)) (Some OffsetAboveDay) (Some (Absolute (record { seconds = seconds; offset = l.offset })))) (Absolute t) e in
-    let g = guard (is_date l.date && is_clock l.clock && is_instant (civil_seconds l.date l.clock l.offset)) (civil_seconds l.date l.clock l.offset) s.0 s.1 in
+    let s = went (civil_instant l.date l.clock l.offset) (λ seconds. cond (nat_lt 86_340 (unsigned_abs l.offset)) (Some OffsetAboveDay)
+    (Some (Absolute (record { seconds = seconds; offset = l.offset })))) (Absolute t) e in
+    let g = guard (is_date l.date && is_clock l.clock && is_instant (civil_seconds l.date l.clock l.offset))
+    (civil_seconds l.date l.clock l.offset) s.0 s.1 in
     let a = answer-by (nat_lt 86_340 (unsigned_abs l.offset)) (record { seconds = s.0; offset = l.offset }) t s.2 in
     let p = and_parts (is_date l.date && is_clock l.clock) (is_instant (civil_seconds l.date l.clock l.offset)) g.0 in
     let q = and_parts (is_date l.date) (is_clock l.clock) p.0 in
@@ -93,7 +96,8 @@ space-quiet = record { no_letter = refl; no_digit = refl; no_plus = refl; no_min
 
 spaces-quiet : (gap : List ℕ) → list_all is_space gap ≡ true → AreQuiet gap
 spaces-quiet [] h = tt
-spaces-quiet (c ∷ gap) h = let p = and_parts (is_space c) (list_all is_space gap) h in (subst IsQuiet (sym (is-byte c space p.0)) space-quiet, spaces-quiet gap p.1)
+spaces-quiet (c ∷ gap) h = let p = and_parts (is_space c) (list_all is_space gap) h in
+    (subst IsQuiet (sym (is-byte c space p.0)) space-quiet, spaces-quiet gap p.1)
 
 pub gap-quiet : (gap : List ℕ) → AreSpaces gap → AreQuiet gap
 gap-quiet [] h = absurd h
@@ -108,10 +112,13 @@ spaced [] rest h = absurd h
 spaced (c ∷ gap) rest h = grind (arith, is-byte, mark-first)
 
 -- three numbers with a mark between them
-pub three-first : (mark : ℕ) (a b c rest : List ℕ) (x y z : ℕ) (ts : List Token) → is_ascii_alphabetic mark ≡ false → is_ascii_digit mark ≡ false → IsNumber a x → IsNumber b y → IsNumber c z
-    → tokens rest ≡ ts → HasNoDigits ts → tokens (((a ++ (mark ∷ b)) ++ (mark ∷ c)) ++ rest) ≡ Digits a ∷ Mark mark ∷ Digits b ∷ Mark mark ∷ Digits c ∷ ts
+pub three-first : (mark : ℕ) (a b c rest : List ℕ) (x y z : ℕ) (ts : List Token) → is_ascii_alphabetic mark ≡ false
+    → is_ascii_digit mark ≡ false → IsNumber a x → IsNumber b y → IsNumber c z
+    → tokens rest ≡ ts → HasNoDigits ts
+    → tokens (((a ++ (mark ∷ b)) ++ (mark ∷ c)) ++ rest) ≡ Digits a ∷ Mark mark ∷ Digits b ∷ Mark mark ∷ Digits c ∷ ts
 three-first mark a b c rest x y z ts no_letter no_digit p q r e free = grind (arith, append_assoc, three-numbers)
 
 -- no second 60 in a part of a text without
 pub free-rest : (text front rest : List ℕ) → HasNoLeapSecond text → text ≡ front ++ rest → HasNoLeapSecond rest
-free-rest text front rest h e before after s = h (front ++ before) after (e ∙ ap (λ (x : List ℕ). front ++ x) s ∙ sym (append_assoc front before (codes ":60" ++ after)))
+free-rest text front rest h e before after s =
+    h (front ++ before) after (e ∙ ap (λ (x : List ℕ). front ++ x) s ∙ sym (append_assoc front before (codes ":60" ++ after)))

@@ -1,6 +1,7 @@
 -- A number of seconds at the front of what is left: from 100000000 it is those seconds, and a smaller one, or one with a sign,
 -- says no time.
-use Rattle.std.proofs.Common.{◌≡◌, ◌∙◌, ◌<◌, ◌≤◌, ◌/◌, ◌%◌, ◌^◌, ◌⊎◌, inl, inr, ℕ, ℤ, pos, nat_le, nat_lt, Bool, true, false, cond, List, [], ◌∷◌, ◌++◌, length, Option, Some, None, Ok, refl, ap, sym, subst, arith}
+use Rattle.std.proofs.Common.{◌≡◌, ◌∙◌, ◌<◌, ◌≤◌, ◌/◌, ◌%◌, ◌^◌, ◌⊎◌, inl, inr, ℕ, ℤ, pos, nat_le, nat_lt, Bool, true, false, cond, List}
+use Rattle.std.proofs.Common.{[], ◌∷◌, ◌++◌, length, Option, Some, None, Ok, refl, ap, sym, subst, arith}
 use Rattle.std.specs.Prelude.{◌==◌, option_map, ok_or}
 use Rattle.std.specs.Char.{is_ascii_digit}
 use Rattle.std.specs.List.{fold}
@@ -56,8 +57,10 @@ pub record IsSigned (x : List ℕ) : Type 0 where
   pub some : 1 ≤ length run
   pub digits : all_ascii_digits run ≡ true
 
-int-by : (c : ℕ) (t : List ℕ) (n : ℤ) (p q : Bool) → (c == minus) ≡ p → (c == plus) ≡ q → nat_lt 0 (length (without_leading_sign (c ∷ t))) ≡ true
-    → all_ascii_digits (without_leading_sign (c ∷ t)) ≡ true → fits_i64 (signed_digits_value 10 (c ∷ t)) ≡ true → signed_digits_value 10 (c ∷ t) ≡ n → IsBare (c ∷ t) n ⊎ IsSigned (c ∷ t)
+int-by : (c : ℕ) (t : List ℕ) (n : ℤ) (p q : Bool) → (c == minus) ≡ p → (c == plus) ≡ q
+    → nat_lt 0 (length (without_leading_sign (c ∷ t))) ≡ true
+    → all_ascii_digits (without_leading_sign (c ∷ t)) ≡ true → fits_i64 (signed_digits_value 10 (c ∷ t)) ≡ true
+    → signed_digits_value 10 (c ∷ t) ≡ n → IsBare (c ∷ t) n ⊎ IsSigned (c ∷ t)
 int-by c t n true q e f some digits fits value = grind (arith, is-mark, nat_tests)
 int-by c t n false true e f some digits fits value = grind (arith, is-mark, nat_tests)
 int-by c t n false false e f some digits fits value = grind (arith, nat_tests, number-is)
@@ -66,7 +69,8 @@ pub int-is : (x : List ℕ) (n : ℤ) → int_value x ≡ Some n → IsBare x n 
 int-is [] n e = let none = (int-taken [] n e).0 in absurd cc
 int-is (c ∷ t) n e =
     let taken = int-taken (c ∷ t) n e in
-    let parts = each_of (nat_lt 0 (length (without_leading_sign (c ∷ t)))) (all_ascii_digits (without_leading_sign (c ∷ t))) (fits_i64 (signed_digits_value 10 (c ∷ t))) taken.0 in
+    let parts = each_of (nat_lt 0 (length (without_leading_sign (c ∷ t)))) (all_ascii_digits (without_leading_sign (c ∷ t)))
+    (fits_i64 (signed_digits_value 10 (c ∷ t))) taken.0 in
     int-by c t n (c == minus) (c == plus) refl refl parts.0 parts.1 parts.2 taken.1
 
 -- what stands after a number is no part of it
@@ -131,13 +135,16 @@ module _ (now : Now) (t : Time) (ts : List Token) (ends : Ends ts) (partial : (f
       let small : nat_lt 2_147_483_647 (number run) ≡ false = grind (arith, nat_tests) in
       rw (early, small, group-none (number run) ts ends) (bare run)
 
-  high : (run : List ℕ) → 100_000_000 ≤ number run → (is_instant (pos (number run)) ≡ true → Goes now t (with_epoch unknown (shown_of (pos (number run)))) ts) → Ended (digits_rule now unknown run ts)
+  high : (run : List ℕ) → 100_000_000 ≤ number run
+      → (is_instant (pos (number run)) ≡ true → Goes now t (with_epoch unknown (shown_of (pos (number run)))) ts)
+      → Ended (digits_rule now unknown run ts)
   unfolding digits_rule utc_clock
   high run h epoch =
       let large : nat_le 100_000_000 (number run) ≡ true = grind (arith, nat_tests) in
       rw large (by (is_instant (pos (number run))) refl)
     where
-      by : (b : Bool) → is_instant (pos (number run)) ≡ b → Ended (ok_or (option_map (λ shown. (Some (with_epoch unknown shown), ts)) (cond b (Some (shown_of (pos (number run)))) None)) Range)
+      by : (b : Bool) → is_instant (pos (number run)) ≡ b → Ended
+          (ok_or (option_map (λ shown. (Some (with_epoch unknown shown), ts)) (cond b (Some (shown_of (pos (number run)))) None)) Range)
       by true e = rw (ends-kept ts ends) (epoch e)
       by false e = tt
 
@@ -149,12 +156,16 @@ module _ (now : Now) (t : Time) (ts : List Token) (ends : Ends ts) (partial : (f
   signed-step : (behind : Bool) (run : List ℕ) → Step now t (sign_rule unknown behind (Digits run ∷ ts))
   unfolding sign_rule offset_said
   signed-step behind run =
-      either (λ (s : SaidOffset). Ended (and_then s (λ said. Ok (option_map (with_offset unknown behind) said.0, said.1)))) (nat_lt 2_147_483_647 (number run)) _ _ tt
-      (either (λ (s : SaidOffset). Ended (and_then s (λ said. Ok (option_map (with_offset unknown behind) said.0, said.1)))) (length run == 2) _ _ (rw (two-kept (number run) ts ends) (refused behind (offset_minutes (number run) false 0)))
+      either (λ (s : SaidOffset). Ended (and_then s (λ said. Ok (option_map (with_offset unknown behind) said.0, said.1))))
+      (nat_lt 2_147_483_647 (number run)) _ _ tt
+      (either (λ (s : SaidOffset). Ended (and_then s (λ said. Ok (option_map (with_offset unknown behind) said.0, said.1))))
+      (length run == 2) _ _ (rw (two-kept (number run) ts ends) (refused behind (offset_minutes (number run) false 0)))
       (refused behind (cond (length run == 4) (offset_minutes (number run / 100) false (number run % 100)) None)))
 
-pub number-goes : (now : Now) (t : Time) (x rest : List ℕ) (n : ℤ) → IsBare x n ⊎ IsSigned x → Ends (tokens rest) → ((f : Fields) → IsPartial f → Goes now t f (tokens rest))
-    → ((k : ℕ) → n ≡ pos k → is_instant (pos k) ≡ true → Goes now t (with_epoch unknown (shown_of (pos k))) (tokens rest)) → Goes now t unknown (tokens (x ++ rest))
+pub number-goes : (now : Now) (t : Time) (x rest : List ℕ) (n : ℤ) → IsBare x n ⊎ IsSigned x → Ends (tokens rest)
+    → ((f : Fields) → IsPartial f → Goes now t f (tokens rest))
+    → ((k : ℕ) → n ≡ pos k → is_instant (pos k) ≡ true → Goes now t (with_epoch unknown (shown_of (pos k))) (tokens rest))
+    → Goes now t unknown (tokens (x ++ rest))
 number-goes now t x rest n (inl b) ends partial epoch =
     subst (Goes now t unknown) (sym (run-before x rest (tokens rest) b.some b.digits refl (ends-free (tokens rest) ends)))
     (goes now t unknown (Digits x) (tokens rest) (λ end. no-offset now t unknown refl)
@@ -163,5 +174,8 @@ number-goes now t x rest n (inl b) ends partial epoch =
       | inr least ↦ high now t (tokens rest) ends partial x least (epoch (number x) b.is)
     ]))
 number-goes now t x rest n (inr s) ends partial epoch =
-    subst (λ (x : List ℕ). Goes now t unknown (tokens (x ++ rest))) (sym s.whole) (sign-goes now t unknown s.behind (s.run ++ rest) (no-offset now t unknown refl)
-    (subst (λ (ts : List Token). Step now t (sign_rule unknown s.behind ts)) (sym (run-before s.run rest (tokens rest) s.some s.digits refl (ends-free (tokens rest) ends))) (signed-step now t (tokens rest) ends partial s.behind s.run)))
+    subst (λ (x : List ℕ). Goes now t unknown (tokens (x ++ rest))) (sym s.whole)
+    (sign-goes now t unknown s.behind (s.run ++ rest) (no-offset now t unknown refl)
+    (subst (λ (ts : List Token). Step now t (sign_rule unknown s.behind ts))
+    (sym (run-before s.run rest (tokens rest) s.some s.digits refl (ends-free (tokens rest) ends)))
+    (signed-step now t (tokens rest) ends partial s.behind s.run)))

@@ -1,5 +1,6 @@
 -- Raw texts, at texts and bare epochs: what the exact reader says of their seconds and offset.
-use Rattle.std.proofs.Common.{◌≡◌, ◌∙◌, ◌⊎◌, inl, inr, ℕ, ℤ, pos, neg_ℤ, ◌*ℤ◌, nat_lt, Bool, true, false, cond, List, [], ◌∷◌, ◌++◌, Option, Some, None, IsUtf8, Ok, refl, ap, sym, subst, arith, append-nil}
+use Rattle.std.proofs.Common.{◌≡◌, ◌∙◌, ◌⊎◌, inl, inr, ℕ, ℤ, pos, neg_ℤ, ◌*ℤ◌, nat_lt, Bool, true, false, cond, List, [], ◌∷◌, ◌++◌, Option}
+use Rattle.std.proofs.Common.{Some, None, IsUtf8, Ok, refl, ap, sym, subst, arith, append-nil}
 use Rattle.std.specs.Prelude.{◌==◌, option_map}
 use Rattle.std.proofs.lemmas.Bool.Decides.{nat_tests}
 use Rattle.std.proofs.lemmas.Str.{IsUtf8-drop, IsCharBoundary-after_ascii}
@@ -32,7 +33,8 @@ use Rattle.git_date.specs.Tokens.Tokens.{Token, Digits, Mark, tokens}
 use Rattle.git_date.specs.Types.Names.{Fields, Now}
 use Rattle.git_date_laws.proofs.Agreement.Answers.{FitsAt}
 use Rattle.git_date_laws.proofs.Agreement.Numbers.{IsBare, IsSigned, int-is, number-goes}
-use Rattle.git_date_laws.proofs.Agreement.Steps.{has-sign, AreQuiet, quiet-free, Ends, IsPartial, Fits, Goes, goes, Ready, over, skip, no-offset, offset-goes, IsRun, offset-run, minutes_at, ends-free}
+use Rattle.git_date_laws.proofs.Agreement.Steps.{has-sign, AreQuiet, quiet-free, Ends, IsPartial, Fits, Goes, goes, Ready, over, skip}
+use Rattle.git_date_laws.proofs.Agreement.Steps.{no-offset, offset-goes, IsRun, offset-run, minutes_at, ends-free}
 use Rattle.git_date_laws.proofs.Agreement.Words.{AreTwo, two-words}
 
 -- fields without a year or a minute come to no seconds
@@ -50,7 +52,8 @@ unfolding exact_seconds month_start
 epoch-is n s instant e =
     let within = instant_holds (pos n) instant in
     let c = shown_of (pos n) in
-    sym (from-month (is_month c.date.year c.date.month) (civil_seconds (first_of c.date.year c.date.month) midnight (pos 0)) s (λ start. seconds_after start (Some c.date.day) c.clock.hour c.clock.minute c.clock.second) e)
+    sym (from-month (is_month c.date.year c.date.month) (civil_seconds (first_of c.date.year c.date.month) midnight (pos 0)) s
+    (λ start. seconds_after start (Some c.date.day) c.clock.hour c.clock.minute c.clock.second) e)
     ∙ (clock-is (pos n) (omega (arith, signed_arith), omega (arith, signed_arith, within))).seconds
 
 -- what does not begin with `@`, seconds, a space and a sign
@@ -82,7 +85,8 @@ module _ (now : Now) (t : Time) where
   unfolding tokens
   int-goes x n e =
       subst (λ (text : List ℕ). Goes now t unknown (tokens text)) (append-nil x)
-      (number-goes now t x [] n (int-is x n e) tt (λ f p. over now t f (no-time f p)) (λ k is instant. over now t (with_epoch unknown (shown_of (pos k))) (no-offset now t _ refl)))
+      (number-goes now t x [] n (int-is x n e) tt (λ f p. over now t f (no-time f p))
+      (λ k is instant. over now t (with_epoch unknown (shown_of (pos k))) (no-offset now t _ refl)))
 
   module _ (rule : OffsetRule) (text : List ℕ) (r : RawWords rule text t) (two : AreTwo text r.front r.zone) where
     k : IsOffsetText r.zone r.fields
@@ -95,8 +99,11 @@ module _ (now : Now) (t : Time) where
     tail-ends =
         let q = two.quiet_between in
         let s = has-sign k.mark r.fields k.is_mark in
-        let free = subst (λ (zone : List ℕ). HasNoDigits (tokens (zone ++ two.after))) (sym (k.whole ∙ ap (λ (c : ℕ). c ∷ k.h0 ∷ k.h1 ∷ k.m0 ∷ k.m1 ∷ k.last) s.is)) (subst HasNoDigits (sym (sign-before s.behind _)) tt) in
-        subst Ends (sym (mark-first two.first (two.between ++ (r.zone ++ two.after)) q.0.no_letter q.0.no_digit)) (q.0.no_colon, quiet-free two.between (r.zone ++ two.after) q.1 free)
+        let free = subst (λ (zone : List ℕ). HasNoDigits (tokens (zone ++ two.after)))
+        (sym (k.whole ∙ ap (λ (c : ℕ). c ∷ k.h0 ∷ k.h1 ∷ k.m0 ∷ k.m1 ∷ k.last) s.is))
+        (subst HasNoDigits (sym (sign-before s.behind _)) tt) in
+        subst Ends (sym (mark-first two.first (two.between ++ (r.zone ++ two.after)) q.0.no_letter q.0.no_digit))
+        (q.0.no_colon, quiet-free two.between (r.zone ++ two.after) q.1 free)
 
     tail-goes : (f : Fields) → Fits now t (Ok (at f)) → Ready now t f → Goes now t f (tokens tail)
     tail-goes f stop ready =
@@ -108,46 +115,56 @@ module _ (now : Now) (t : Time) where
         subst (λ (text : List ℕ). Goes now t unknown (tokens text)) (sym two.whole)
         (skip now t unknown two.before (r.front ++ tail) two.quiet_before (no-offset now t unknown refl)
         (number-goes now t r.front tail r.value (int-is r.front r.value r.is_value) tail-ends (λ f p. tail-goes f (no-time f p) (never f p))
-        (λ n is instant. tail-goes (with_epoch unknown (shown_of (pos n))) (no-offset now t _ refl) (epoch-ready n (sym (ap (λ (u : Time). u.seconds) r.time) ∙ is) instant))))
+        (λ n is instant. tail-goes (with_epoch unknown (shown_of (pos n))) (no-offset now t _ refl)
+        (epoch-ready n (sym (ap (λ (u : Time). u.seconds) r.time) ∙ is) instant))))
 
     pub raw-no-at : at_text (tokens text) ≡ None
     raw-no-at = ap (λ (text : List ℕ). at_text (tokens text)) two.whole ∙ by two.before two.quiet_before
       where
         by : (before : List ℕ) → AreQuiet before → at_text (tokens (before ++ (r.front ++ tail))) ≡ None
         by [] q = no-at-in r.front tail r.value (int-is r.front r.value r.is_value) (ends-free (tokens tail) tail-ends)
-        by (c ∷ before) q = ap at_text (mark-first c (before ++ (r.front ++ tail)) q.0.no_letter q.0.no_digit) ∙ not-at c (tokens (before ++ (r.front ++ tail))) q.0.no_at
+        by (c ∷ before) q = ap at_text (mark-first c (before ++ (r.front ++ tail)) q.0.no_letter q.0.no_digit)
+            ∙ not-at c (tokens (before ++ (r.front ++ tail))) q.0.no_at
 
 -- after `@`
-wide-fits : (now : Now) (t : Time) (n : ℕ) (behind : Bool) (fields : SignedPairs) (ts more : List Token) → IsRun fields ts more → t.seconds ≡ pos n
+wide-fits : (now : Now) (t : Time) (n : ℕ) (behind : Bool) (fields : SignedPairs) (ts more : List Token) → IsRun fields ts more
+    → t.seconds ≡ pos n
     → (fields.seconds ≡ None → t.offset ≡ pos 60 *ℤ cond behind (neg_ℤ (minutes_at fields)) (minutes_at fields))
     → FitsAt t (option_map (λ minutes. (n, minutes)) (padded_number ts >>= λ found. wide_minutes behind found.0 found.1))
 unfolding padded_number white without_white
 wide-fits now t n behind fields ts more r e o = grind (arith, nat_lt, nat_tests, minutes_at, signed_arith, either)
 
-module _ (now : Now) (t : Time) (rule : OffsetRule) (text : List ℕ) (r : RawWords rule text t) (two : AreTwo text r.front r.zone) (n : ℕ) (seconds : t.seconds ≡ pos n) where
+module _ (now : Now) (t : Time) (rule : OffsetRule) (text : List ℕ) (r : RawWords rule text t) (two : AreTwo text r.front r.zone) (n : ℕ)
+    (seconds : t.seconds ≡ pos n) where
   abbrev zone : IsOffsetText r.zone r.fields
   zone = offset-taken r.zone r.fields r.is_fields
 
   abbrev digits : List ℕ
   digits = (zone.h0 ∷ zone.h1 ∷ zone.m0 ∷ zone.m1 ∷ zone.last) ++ two.after
 
-  at-sign-fits : (behind : Bool) (run : List ℕ) (gap : ℕ) → number run ≡ n → (r.fields.seconds ≡ None → t.offset ≡ pos 60 *ℤ cond behind (neg_ℤ (minutes_at r.fields)) (minutes_at r.fields))
+  at-sign-fits : (behind : Bool) (run : List ℕ) (gap : ℕ) → number run ≡ n
+      → (r.fields.seconds ≡ None → t.offset ≡ pos 60 *ℤ cond behind (neg_ℤ (minutes_at r.fields)) (minutes_at r.fields))
       → FitsAt t (at_text (Mark at_sign ∷ Digits run ∷ Mark gap ∷ Mark (cond behind minus plus) ∷ tokens digits))
   unfolding at_text
   at-sign-fits true run gap e o =
-      either (FitsAt t) (gap == space) _ _ (wide-fits now t (number run) true r.fields (tokens digits) (tokens two.after) (offset-run r.fields r.zone two.after zone two.quiet_after) (seconds ∙ ap pos (sym e)) o) tt
+      either (FitsAt t) (gap == space) _ _ (wide-fits now t (number run) true r.fields (tokens digits) (tokens two.after)
+      (offset-run r.fields r.zone two.after zone two.quiet_after) (seconds ∙ ap pos (sym e)) o) tt
   at-sign-fits false run gap e o =
-      either (FitsAt t) (gap == space) _ _ (wide-fits now t (number run) false r.fields (tokens digits) (tokens two.after) (offset-run r.fields r.zone two.after zone two.quiet_after) (seconds ∙ ap pos (sym e)) o) tt
+      either (FitsAt t) (gap == space) _ _ (wide-fits now t (number run) false r.fields (tokens digits) (tokens two.after)
+      (offset-run r.fields r.zone two.after zone two.quiet_after) (seconds ∙ ap pos (sym e)) o) tt
 
   at-gap-fits : (run : List ℕ) (gap : ℕ) (between : List ℕ) → number run ≡ n → AreQuiet between
       → FitsAt t (at_text (Mark at_sign ∷ Digits run ∷ Mark gap ∷ tokens (between ++ (r.zone ++ two.after))))
   unfolding at_text
   at-gap-fits run gap [] e q =
       let s = has-sign zone.mark r.fields zone.is_mark in
-      let whole = ap (λ (x : List ℕ). tokens (x ++ two.after)) zone.whole ∙ ap (λ (c : ℕ). tokens (c ∷ digits)) s.is ∙ sign-before s.behind digits in
-      subst (λ (ts : List Token). FitsAt t (at_text (Mark at_sign ∷ Digits run ∷ Mark gap ∷ ts))) (sym whole) (at-sign-fits s.behind run gap e (λ none. sym (ap (λ (u : Time). u.offset) r.time) ∙ s.minutes none))
+      let whole = ap (λ (x : List ℕ). tokens (x ++ two.after)) zone.whole ∙ ap (λ (c : ℕ). tokens (c ∷ digits)) s.is
+      ∙ sign-before s.behind digits in
+      subst (λ (ts : List Token). FitsAt t (at_text (Mark at_sign ∷ Digits run ∷ Mark gap ∷ ts))) (sym whole)
+      (at-sign-fits s.behind run gap e (λ none. sym (ap (λ (u : Time). u.offset) r.time) ∙ s.minutes none))
   at-gap-fits run gap (c ∷ between) e q =
-      subst (λ (ts : List Token). FitsAt t (at_text (Mark at_sign ∷ Digits run ∷ Mark gap ∷ ts))) (sym (mark-first c (between ++ (r.zone ++ two.after)) q.0.no_letter q.0.no_digit))
+      subst (λ (ts : List Token). FitsAt t (at_text (Mark at_sign ∷ Digits run ∷ Mark gap ∷ ts)))
+      (sym (mark-first c (between ++ (r.zone ++ two.after)) q.0.no_letter q.0.no_digit))
       (rw (q.0.no_plus, q.0.no_minus) (either (FitsAt t) (gap == space) _ _ tt tt))
 
 -- the time of an at text
@@ -159,21 +176,26 @@ module _ (now : Now) (t : Time) (rule : OffsetRule) (text : List ℕ) (r : RawWo
   unfolding at_text
   at-number-fits (inl b) =
       let q = two.quiet_between.0 in
-      let whole = run-before r.front back _ b.some b.digits (mark-first two.first (two.between ++ (r.zone ++ two.after)) q.no_letter q.no_digit) tt in
+      let whole = run-before r.front back _ b.some b.digits
+      (mark-first two.first (two.between ++ (r.zone ++ two.after)) q.no_letter q.no_digit) tt in
       subst (λ (ts : List Token). FitsAt t (at_text (Mark at_sign ∷ ts))) (sym whole)
-      (at-gap-fits now t rule text r two (number r.front) (sym (ap (λ (u : Time). u.seconds) r.time) ∙ b.is) r.front two.first two.between refl two.quiet_between.1)
+      (at-gap-fits now t rule text r two (number r.front) (sym (ap (λ (u : Time). u.seconds) r.time) ∙ b.is) r.front two.first two.between
+      refl two.quiet_between.1)
   at-number-fits (inr s) =
-      subst (λ (ts : List Token). FitsAt t (at_text (Mark at_sign ∷ ts))) (sym (ap (λ (x : List ℕ). tokens (x ++ back)) s.whole ∙ sign-before s.behind (s.run ++ back))) tt
+      subst (λ (ts : List Token). FitsAt t (at_text (Mark at_sign ∷ ts)))
+      (sym (ap (λ (x : List ℕ). tokens (x ++ back)) s.whole ∙ sign-before s.behind (s.run ++ back))) tt
 
   at-front-fits : (before : List ℕ) → AreQuiet before → FitsAt t (at_text (Mark at_sign ∷ tokens (before ++ (r.front ++ back))))
   unfolding at_text
   at-front-fits [] q = at-number-fits (int-is r.front r.value r.is_value)
-  at-front-fits (c ∷ before) q = subst (λ (ts : List Token). FitsAt t (at_text (Mark at_sign ∷ ts))) (sym (mark-first c (before ++ (r.front ++ back)) q.0.no_letter q.0.no_digit)) tt
+  at-front-fits (c ∷ before) q = subst (λ (ts : List Token). FitsAt t (at_text (Mark at_sign ∷ ts)))
+      (sym (mark-first c (before ++ (r.front ++ back)) q.0.no_letter q.0.no_digit)) tt
 
   pub at-raw-fits : FitsAt t (at_text (tokens (at_sign ∷ text)))
   at-raw-fits =
       subst (λ (ts : List Token). FitsAt t (at_text ts)) (sym (mark-first at_sign text refl refl))
-      (subst (λ (text : List ℕ). FitsAt t (at_text (Mark at_sign ∷ tokens text))) (sym two.whole) (at-front-fits two.before two.quiet_before))
+      (subst (λ (text : List ℕ). FitsAt t (at_text (Mark at_sign ∷ tokens text))) (sym two.whole)
+      (at-front-fits two.before two.quiet_before))
 
 -- what the steps over a text come to
 abbrev pub Reads : Now → Time → List ℕ → Type 0
@@ -200,18 +222,21 @@ at-int-fits : (t : Time) (x : List ℕ) (n : ℤ) → IsBare x n ⊎ IsSigned x 
 unfolding at_text tokens
 at-int-fits t x n (inl b) =
     let whole : tokens x ≡ Digits x ∷ [] = ap tokens (sym (append-nil x)) ∙ run-before x [] [] b.some b.digits refl tt in
-    subst (λ (ts : List Token). FitsAt t (at_text ts)) (sym (mark-first at_sign x refl refl ∙ ap (λ (ts : List Token). Mark at_sign ∷ ts) whole)) tt
+    subst (λ (ts : List Token). FitsAt t (at_text ts))
+    (sym (mark-first at_sign x refl refl ∙ ap (λ (ts : List Token). Mark at_sign ∷ ts) whole)) tt
 at-int-fits t x n (inr s) = grind (arith, mark-first, sign-before)
 
 after-at : (now : Now) (t : Time) (rest : List ℕ) → Goes now t unknown (tokens rest) → Goes now t unknown (tokens (at_sign ∷ rest))
-after-at now t rest h = subst (Goes now t unknown) (sym (mark-first at_sign rest refl refl)) (goes now t unknown (Mark at_sign) (tokens rest) (λ end. no-offset now t unknown refl) h)
+after-at now t rest h = subst (Goes now t unknown) (sym (mark-first at_sign rest refl refl))
+    (goes now t unknown (Mark at_sign) (tokens rest) (λ end. no-offset now t unknown refl) h)
 
 pub at-reads : (now : Now) (rule : OffsetRule) (text : List ℕ) (t : Time) → IsUtf8 text → at_time rule text ≡ Some t → Reads now t text
 at-reads now rule text t u e =
     let p = at-parts rule text t e in
     subst (Reads now t) (sym p.1) (elim p.2 [
       | inl h ↦
-          let rest = IsUtf8-drop (at_sign ∷ p.0) 1 (subst IsUtf8 p.1 u) (IsCharBoundary-after_ascii (at_sign ∷ p.0) 0 (subst IsUtf8 p.1 u) (omega arith) (omega arith)) in
+          let rest = IsUtf8-drop (at_sign ∷ p.0) 1 (subst IsUtf8 p.1 u)
+          (IsCharBoundary-after_ascii (at_sign ∷ p.0) 0 (subst IsUtf8 p.1 u) (omega arith) (omega arith)) in
           let r = raw-words rule p.0 t h in
           let two = two-words p.0 r.front r.zone rest r.is in
           (after-at now t p.0 (raw-text-goes now t rule p.0 r two), at-raw-fits now t rule p.0 r two)

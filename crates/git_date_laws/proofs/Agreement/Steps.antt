@@ -1,6 +1,8 @@
 -- Steps of the exact reader over a text whose time is known: where it reads a time with an offset and ignores nothing, it
 -- reads that time.
-use Rattle.std.proofs.Common.{◌≡◌, ◌∙◌, ◌<◌, ◌≤◌, ◌+◌, ◌*◌, ◌/◌, ◌%◌, ◌-◌, ◌⊎◌, ℕ, zero, suc, ℤ, pos, neg_ℤ, ◌+ℤ◌, ◌-ℤ◌, ◌*ℤ◌, Bool, true, false, cond, List, [], ◌∷◌, ◌++◌, length, Option, Some, None, is_none, Result, Ok, Err, refl, ap, sym, subst, arith, inl, inr, append-nil, negsuc}
+use Rattle.std.proofs.Common.{◌≡◌, ◌∙◌, ◌<◌, ◌≤◌, ◌+◌, ◌*◌, ◌/◌, ◌%◌, ◌-◌, ◌⊎◌, ℕ, zero, suc, ℤ, pos, neg_ℤ, ◌+ℤ◌, ◌-ℤ◌, ◌*ℤ◌, Bool, true}
+use Rattle.std.proofs.Common.{false, cond, List, [], ◌∷◌, ◌++◌, length, Option, Some, None, is_none, Result, Ok, Err, refl, ap, sym, subst}
+use Rattle.std.proofs.Common.{arith, inl, inr, append-nil, negsuc}
 use Rattle.std.specs.Prelude.{◌==◌, ◌||◌, ◌&&◌, nat_lt, option_map}
 use Rattle.std.specs.Char.{is_ascii_alphabetic, is_ascii_digit}
 use Rattle.std.proofs.lemmas.Bool.Decides.{nat_tests}
@@ -68,11 +70,13 @@ IsPartial f = (is_none f.minute || is_none f.year) ≡ true
 pub digit-below : (a : ℕ) → IsDigit a → a < 58
 digit-below a p = grind (arith, nat_tests)
 
-pub four-is : (a b c d : ℕ) → IsDigit a → IsDigit b → IsDigit c → IsDigit d → number (a ∷ b ∷ c ∷ d ∷ []) ≡ 100 * (10 * (a - 48) + (b - 48)) + (10 * (c - 48) + (d - 48))
+pub four-is : (a b c d : ℕ) → IsDigit a → IsDigit b → IsDigit c → IsDigit d
+    → number (a ∷ b ∷ c ∷ d ∷ []) ≡ 100 * (10 * (a - 48) + (b - 48)) + (10 * (c - 48) + (d - 48))
 unfolding number
 four-is a b c d p q r s = omega (arith, digit-below a p, digit-below b q, digit-below c r, digit-below d s)
 
-six-is : (a b c d x y : ℕ) → IsDigit a → IsDigit b → IsDigit c → IsDigit d → IsDigit x → IsDigit y → number (a ∷ b ∷ c ∷ d ∷ x ∷ y ∷ []) < 1_000_000
+six-is : (a b c d x y : ℕ) → IsDigit a → IsDigit b → IsDigit c → IsDigit d → IsDigit x → IsDigit y
+    → number (a ∷ b ∷ c ∷ d ∷ x ∷ y ∷ []) < 1_000_000
 unfolding number
 six-is a b c d x y p q r s u v = grind (arith, digit-below)
 
@@ -94,16 +98,19 @@ has-sign mark fields h = grind (arith, signed_arith)
 ends-quiet : (w : List ℕ) → AreQuiet w → Ends (tokens w)
 unfolding tokens
 ends-quiet [] q = tt
-ends-quiet (c ∷ w) q = subst Ends (sym (mark-first c w q.0.no_letter q.0.no_digit)) (q.0.no_colon, subst HasNoDigits (ap tokens (append-nil w)) (quiet-free w [] q.1 tt))
+ends-quiet (c ∷ w) q = subst Ends (sym (mark-first c w q.0.no_letter q.0.no_digit))
+    (q.0.no_colon, subst HasNoDigits (ap tokens (append-nil w)) (quiet-free w [] q.1 tt))
 
 -- the digits after a sign: hours and minutes, or six digits
 pub record IsRun (fields : SignedPairs) (ts : List Token) (more : List Token) : Type 0 where
   pub run : List ℕ
   pub whole : ts ≡ Digits run ∷ more
-  pub is : ((length run ≡ 4) × (number run ≡ 100 * fields.hours + fields.minutes) × (fields.hours < 100) × (fields.minutes < 100) × (fields.seconds ≡ None))
+  pub is : ((length run ≡ 4) × (number run ≡ 100 * fields.hours + fields.minutes) × (fields.hours < 100) × (fields.minutes < 100)
+      × (fields.seconds ≡ None))
       ⊎ ((length run ≡ 6) × (number run < 1_000_000))
 
-pub offset-run : (fields : SignedPairs) (x w : List ℕ) (k : IsOffsetText x fields) → AreQuiet w → IsRun fields (tokens ((k.h0 ∷ k.h1 ∷ k.m0 ∷ k.m1 ∷ k.last) ++ w)) (tokens w)
+pub offset-run : (fields : SignedPairs) (x w : List ℕ) (k : IsOffsetText x fields) → AreQuiet w
+    → IsRun fields (tokens ((k.h0 ∷ k.h1 ∷ k.m0 ∷ k.m1 ∷ k.last) ++ w)) (tokens w)
 offset-run fields x w k q = by k.last k.is_last.is
   where
     by : (last : List ℕ) → ((last ≡ []) × (fields.seconds ≡ None)) ⊎ ((n : ℕ) × IsPair last n × (fields.seconds ≡ Some n))
@@ -114,7 +121,8 @@ offset-run fields x w k q = by k.last k.is_last.is
         let b = k.is_h1 in
         let c = k.is_m0 in
         let d = k.is_m1 in
-        let n : number run ≡ 100 * fields.hours + fields.minutes = four-is k.h0 k.h1 k.m0 k.m1 a b c d ∙ omega (arith, k.hours, k.minutes) in
+        let n : number run ≡ 100 * fields.hours + fields.minutes = four-is k.h0 k.h1 k.m0 k.m1 a b c d
+        ∙ omega (arith, k.hours, k.minutes) in
         record {
           run = run;
           whole = run-before run w (tokens w) (omega arith) (rw (a, b, c, d) refl) refl (ends-free (tokens w) (ends-quiet w q));
@@ -161,10 +169,12 @@ module _ (now : Now) (t : Time) where
     where
       by : (read : Result Reading Fault) → steps now n (read_on (at f) left None) rest ≡ read → Fits read
       by (Err fault) e = tt
-      by (Ok r) e = λ s m none off exact. absurd (let clash = sym (steps-walk now n (read_on (at f) left None) r rest fits e).2 ∙ none in cc)
+      by (Ok r) e =
+          λ s m none off exact. absurd (let clash = sym (steps-walk now n (read_on (at f) left None) r rest fits e).2 ∙ none in cc)
 
   -- a step
-  found : (n left : ℕ) (f : Fields) (o : Option Fields) (rest : List Token) → After o rest → length rest ≤ n → Fits (steps now n (read_on (at f) left o) rest)
+  found : (n left : ℕ) (f : Fields) (o : Option Fields) (rest : List Token) → After o rest → length rest ≤ n
+      → Fits (steps now n (read_on (at f) left o) rest)
   found n left f (Some next) rest h fits = h n fits
   found n left f None rest h fits = lost n left f rest fits
 
@@ -177,7 +187,8 @@ module _ (now : Now) (t : Time) where
   at-end true x y h g = h refl
   at-end false x y h g = g
 
-  pub goes : (f : Fields) (tok : Token) (more : List Token) → (is_end tok ≡ true → Fits (Ok (at f))) → Step (rule now f tok more) → Goes f (tok ∷ more)
+  pub goes : (f : Fields) (tok : Token) (more : List Token) → (is_end tok ≡ true → Fits (Ok (at f))) → Step (rule now f tok more)
+      → Goes f (tok ∷ more)
   unfolding walked
   goes f tok more stop h zero fits = absurd (omega (arith, fits))
   goes f tok more stop h (suc n) fits =
@@ -201,14 +212,16 @@ module _ (now : Now) (t : Time) where
 
   -- the seconds of these fields are those of the time
   abbrev pub Ready : Fields → Type 0
-  Ready f = (seconds minutes : ℤ) → t.offset ≡ pos 60 *ℤ minutes → exact_seconds f ≡ Some seconds → t.seconds ≡ cond f.epoch seconds (seconds -ℤ pos 60 *ℤ minutes)
+  Ready f = (seconds minutes : ℤ) → t.offset ≡ pos 60 *ℤ minutes → exact_seconds f ≡ Some seconds
+      → t.seconds ≡ cond f.epoch seconds (seconds -ℤ pos 60 *ℤ minutes)
 
   -- an offset that is known is as it was said
   known-is : (minutes other : ℤ) (b : Bool) → cond b None (Some minutes) ≡ Some other → minutes ≡ other
   known-is minutes other true e = absurd cc
   known-is minutes other false e = cc
 
-  pub with-it : (f : Fields) (behind : Bool) (minutes : ℤ) → Ready f → t.offset ≡ pos 60 *ℤ cond behind (neg_ℤ minutes) minutes → Fits (Ok (at (with_offset f behind minutes)))
+  pub with-it : (f : Fields) (behind : Bool) (minutes : ℤ) → Ready f → t.offset ≡ pos 60 *ℤ cond behind (neg_ℤ minutes) minutes
+      → Fits (Ok (at (with_offset f behind minutes)))
   unfolding exact_seconds
   with-it f behind minutes ready e = λ s m none off exact.
       let x = cond behind (neg_ℤ minutes) minutes in
@@ -216,7 +229,8 @@ module _ (now : Now) (t : Time) where
       let counted = ready s m same exact in
       λ i. record { seconds = counted i; offset = same i }
 
-  four-step : (f : Fields) (behind : Bool) (run : List ℕ) (hours minutes : ℕ) (more : List Token) → length run ≡ 4 → number run ≡ 100 * hours + minutes → hours < 100 → minutes < 100
+  four-step : (f : Fields) (behind : Bool) (run : List ℕ) (hours minutes : ℕ) (more : List Token) → length run ≡ 4
+      → number run ≡ 100 * hours + minutes → hours < 100 → minutes < 100
       → Ends more → Goes (with_offset f behind (pos (60 * hours) +ℤ pos minutes)) more → Step (sign_rule f behind (Digits run ∷ more))
   unfolding sign_rule offset_said offset_minutes
   four-step f behind run hours minutes more long e h m ends goal =
@@ -224,16 +238,20 @@ module _ (now : Now) (t : Time) where
       let a : number run / 100 ≡ hours = omega arith in
       let b : number run % 100 ≡ minutes = omega arith in
       rw (small, long, a, b)
-      (either (λ (o : Option ℤ). After (option_map (with_offset f behind) o) (without_ending more)) (nat_lt hours 24 && nat_lt minutes 60) _ _ (rw (ends-kept more ends) goal) tt)
+      (either (λ (o : Option ℤ). After (option_map (with_offset f behind) o) (without_ending more)) (nat_lt hours 24 && nat_lt minutes 60) _
+      _ (rw (ends-kept more ends) goal) tt)
 
-  other-step : (f : Fields) (behind : Bool) (run : List ℕ) (more : List Token) → length run ≡ 6 → number run < 1_000_000 → Step (sign_rule f behind (Digits run ∷ more))
+  other-step : (f : Fields) (behind : Bool) (run : List ℕ) (more : List Token) → length run ≡ 6 → number run < 1_000_000
+      → Step (sign_rule f behind (Digits run ∷ more))
   unfolding sign_rule offset_said
   other-step f behind run more long h =
       let small : nat_lt 2_147_483_647 (number run) ≡ false = grind (arith, nat_tests) in
       rw (small, long) tt
 
-  after-sign : (f : Fields) (behind : Bool) (fields : SignedPairs) (w : List ℕ) (ts : List Token) → IsRun fields ts (tokens w) → AreQuiet w → Fits (Ok (at f)) → Ready f
-      → (fields.seconds ≡ None → t.offset ≡ pos 60 *ℤ cond behind (neg_ℤ (minutes_at fields)) (minutes_at fields)) → Step (sign_rule f behind ts)
+  after-sign : (f : Fields) (behind : Bool) (fields : SignedPairs) (w : List ℕ) (ts : List Token) → IsRun fields ts (tokens w) → AreQuiet w
+      → Fits (Ok (at f)) → Ready f
+      → (fields.seconds ≡ None → t.offset ≡ pos 60 *ℤ cond behind (neg_ℤ (minutes_at fields)) (minutes_at fields))
+      → Step (sign_rule f behind ts)
   after-sign f behind fields w ts r q stop ready e =
       subst (λ (ts : List Token). Step (sign_rule f behind ts)) (sym r.whole) (elim r.is [
         | inl p ↦
@@ -245,14 +263,17 @@ module _ (now : Now) (t : Time) where
       ])
 
   -- what follows a sign
-  pub sign-goes : (f : Fields) (behind : Bool) (rest : List ℕ) → Fits (Ok (at f)) → Step (sign_rule f behind (tokens rest)) → Goes f (tokens (cond behind minus plus ∷ rest))
+  pub sign-goes : (f : Fields) (behind : Bool) (rest : List ℕ) → Fits (Ok (at f)) → Step (sign_rule f behind (tokens rest))
+      → Goes f (tokens (cond behind minus plus ∷ rest))
   sign-goes f true rest stop h = subst (Goes f) (sym (sign-before true rest)) (goes f (Mark minus) (tokens rest) (λ end. stop) h)
   sign-goes f false rest stop h = subst (Goes f) (sym (sign-before false rest)) (goes f (Mark plus) (tokens rest) (λ end. stop) h)
 
-  pub offset-goes : (f : Fields) (fields : SignedPairs) (x w : List ℕ) → IsOffsetText x fields → t.offset ≡ offset_of fields → AreQuiet w → Fits (Ok (at f)) → Ready f
+  pub offset-goes : (f : Fields) (fields : SignedPairs) (x w : List ℕ) → IsOffsetText x fields → t.offset ≡ offset_of fields → AreQuiet w
+      → Fits (Ok (at f)) → Ready f
       → Goes f (tokens (x ++ w))
   offset-goes f fields x w k e q stop ready =
       let rest = (k.h0 ∷ k.h1 ∷ k.m0 ∷ k.m1 ∷ k.last) ++ w in
       let s = has-sign k.mark fields k.is_mark in
       subst (λ (text : List ℕ). Goes f (tokens (text ++ w))) (sym k.whole) (subst (λ (c : ℕ). Goes f (tokens (c ∷ rest))) (sym s.is)
-      (sign-goes f s.behind rest stop (after-sign f s.behind fields w (tokens rest) (offset-run fields x w k q) q stop ready (λ none. e ∙ s.minutes none))))
+      (sign-goes f s.behind rest stop
+      (after-sign f s.behind fields w (tokens rest) (offset-run fields x w k q) q stop ready (λ none. e ∙ s.minutes none))))

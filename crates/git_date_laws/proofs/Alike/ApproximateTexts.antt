@@ -1,5 +1,6 @@
 -- Letter case changes nothing of what the approximate reader makes of a text.
-use Rattle.std.proofs.Common.{◌≡◌, ◌∙◌, ◌-◌, ℕ, zero, suc, Bool, cond, List, [], ◌∷◌, length, refl, ap, ap₂, arith, Option, Some, None, Result, Ok, Err}
+use Rattle.std.proofs.Common.{◌≡◌, ◌∙◌, ◌-◌, ℕ, zero, suc, Bool, cond, List, [], ◌∷◌, length, refl, ap, ap₂, arith, Option, Some, None}
+use Rattle.std.proofs.Common.{Result, Ok, Err}
 use Rattle.std.proofs.lemmas.List.{length-map}
 use Rattle.std.specs.Char.{to_ascii_lowercase}
 use Rattle.std.specs.Str.{str_to_ascii_lowercase}
@@ -7,7 +8,8 @@ use Rattle.gix_date.specs.Fields.Layout.{LocalTime}
 use Rattle.gix_date.specs.declared.time.Time.{Time}
 use Rattle.git_date.specs.Approximate.Reading.{Read, approximate_steps, draft_of, answer, answer_of, guess_by, string_guess, guess}
 use Rattle.git_date.specs.Approximate.Drafts.{first_draft, ignore, settle}
-use Rattle.git_date.specs.Approximate.Rules.{Ruled, word_by, read_word, are_digits_next, approximate_letters_rule, number_waits, group_or_number, approximate_digits_rule, understood}
+use Rattle.git_date.specs.Approximate.Rules.{Ruled, word_by, read_word, are_digits_next, approximate_letters_rule, number_waits}
+use Rattle.git_date.specs.Approximate.Rules.{group_or_number, approximate_digits_rule, understood}
 use Rattle.git_date.specs.Approximate.Words.{meaning_of}
 use Rattle.git_date.specs.Approximate.Zones.{shown_in}
 use Rattle.git_date.specs.Exact.Zones.{States}
@@ -56,8 +58,10 @@ module _ (spell : List ℕ → List ℕ) (same : IsSpelling spell) where
   letters-same zone today d run more =
       let left = bytes_left (Letters run ∷ more) in
       (λ i. cond (next-same more i) (Ok (ignore d (same-left (Letters run ∷ more) i)))
-      (read_word d (spell run) (same-left (Letters run ∷ more) i) (word_by zone today d (same-left (Letters run ∷ more) i) (meaning-agrees spell same run i))))
-      ∙ ap (λ (given : Result Draft Fault). cond (are_digits_next more) (Ok (ignore d left)) given) (word-same d run left (word_by zone today d left (meaning_of run)))
+      (read_word d (spell run) (same-left (Letters run ∷ more) i)
+      (word_by zone today d (same-left (Letters run ∷ more) i) (meaning-agrees spell same run i))))
+      ∙ ap (λ (given : Result Draft Fault). cond (are_digits_next more) (Ok (ignore d left)) given)
+      (word-same d run left (word_by zone today d left (meaning_of run)))
 
   -- digits
   abbrev kept : Read → Read
@@ -65,17 +69,20 @@ module _ (spell : List ℕ → List ℕ) (same : IsSpelling spell) where
   kept (Err e) = Err e
 
   or-number-same : (d : Draft) (run : List ℕ) (more : List Token) (said : SaidGroup)
-      → and_then (moved_said spell same None said) (λ said. Ok (group_or_number d run (φ more) said)) ≡ kept (and_then said (λ said. Ok (group_or_number d run more said)))
+      → and_then (moved_said spell same None said) (λ said. Ok (group_or_number d run (φ more) said))
+      ≡ kept (and_then said (λ said. Ok (group_or_number d run more said)))
   or-number-same d run more (Ok None) = ap (λ (left : ℕ). Ok (number_waits d run left, φ more)) (same-left (Digits run ∷ more))
   or-number-same d run more (Ok (Some found)) = refl
   or-number-same d run more (Err e) = ap (λ (e : Fault). Err e) (no-farther e)
 
-  digits-same : (now : Now) (d : Draft) (run : List ℕ) (more : List Token) → approximate_digits_rule now d run (φ more) ≡ kept (approximate_digits_rule now d run more)
+  digits-same : (now : Now) (d : Draft) (run : List ℕ) (more : List Token)
+      → approximate_digits_rule now d run (φ more) ≡ kept (approximate_digits_rule now d run more)
   unfolding approximate_digits_rule
   digits-same now d run more =
       let ready = understood (settle d) in
       by-true kept (is_too_large (number run)) _ _ _ _ (λ e. ap (λ (left : ℕ). Err (NumberTooLarge left)) (same-left (Digits run ∷ more)))
-      (ap (λ (said : SaidGroup). and_then said (λ said. Ok (group_or_number ready run (φ more) said))) (said-is spell same None now ready.fields run more)
+      (ap (λ (said : SaidGroup). and_then said (λ said. Ok (group_or_number ready run (φ more) said)))
+      (said-is spell same None now ready.fields run more)
       ∙ or-number-same ready run more (group_said now ready.fields run more))
 
   ended-kept : (x : Read) → ended (kept x) ≡ kept (ended x)
@@ -86,7 +93,8 @@ module _ (spell : List ℕ → List ℕ) (same : IsSpelling spell) where
   abbrev go_on : States → Today → ℕ → Read → Result Draft Fault
   go_on zone today n step = and_then step (λ next. approximate_steps zone today n next.0 next.1)
 
-  module _ (zone : States) (today : Today) (n : ℕ) (again : (d : Draft) (ts : List Token) → approximate_steps zone today n d (φ ts) ≡ approximate_steps zone today n d ts) where
+  module _ (zone : States) (today : Today) (n : ℕ)
+      (again : (d : Draft) (ts : List Token) → approximate_steps zone today n d (φ ts) ≡ approximate_steps zone today n d ts) where
     kept-on : (x : Read) → go_on zone today n (kept x) ≡ go_on zone today n x
     kept-on (Ok found) = again found.0 found.1
     kept-on (Err e) = refl
@@ -96,14 +104,16 @@ module _ (spell : List ℕ → List ℕ) (same : IsSpelling spell) where
     letters-on more (Ok d) = again d more
     letters-on more (Err e) = refl
 
-  steps-same : (zone : States) (today : Today) (n : ℕ) (d : Draft) (ts : List Token) → approximate_steps zone today n d (φ ts) ≡ approximate_steps zone today n d ts
+  steps-same : (zone : States) (today : Today) (n : ℕ) (d : Draft) (ts : List Token)
+      → approximate_steps zone today n d (φ ts) ≡ approximate_steps zone today n d ts
   unfolding walked
   steps-same zone today n d [] = refl
   steps-same zone today zero d (Letters run ∷ more) = refl
   steps-same zone today zero d (Digits run ∷ more) = refl
   steps-same zone today zero d (Mark byte ∷ more) = refl
   steps-same zone today (suc n) d (Letters run ∷ more) =
-      ap (λ (given : Result Draft Fault). go_on zone today n (and_then given (λ next. Ok (next, φ more)))) (letters-same zone today.shown.clock d run more)
+      ap (λ (given : Result Draft Fault). go_on zone today n (and_then given (λ next. Ok (next, φ more))))
+      (letters-same zone today.shown.clock d run more)
       ∙ letters-on zone today n (λ d ts. steps-same zone today n d ts) more (approximate_letters_rule zone today.shown.clock d run more)
   steps-same zone today (suc n) d (Digits run ∷ more) =
       ap (λ (step : Read). go_on zone today n step)
@@ -139,7 +149,8 @@ draft-lower zone today text =
     ap₂ (λ (n : ℕ) (ts : List Token). approximate_steps zone today n (first_draft today.shown) ts) (lower-length text) (tokens-lower text)
     ∙ steps-same str_to_ascii_lowercase in_lower_case zone today (length text) (first_draft today.shown) (tokens text)
 
-guess-by-lower : (zone : States) (now : Now) (text : List ℕ) (shown : Option ZoneClock) → guess_by zone now (lower text) shown ≡ guess_by zone now text shown
+guess-by-lower : (zone : States) (now : Now) (text : List ℕ) (shown : Option ZoneClock)
+    → guess_by zone now (lower text) shown ≡ guess_by zone now text shown
 guess-by-lower zone now text None = refl
 guess-by-lower zone now text (Some shown) = grind (arith, draft-lower, answer-of-same, lower-length)
 

@@ -1,6 +1,7 @@
 -- Texts that say the same: their words may be spelled otherwise, and a line feed and more may follow. What letters and digits say of the
 -- tokens they say of the changed ones: what is left is changed too, and places are farther from the end.
-use Rattle.std.proofs.Common.{◌≡◌, ◌∙◌, ◌+◌, ℕ, Bool, true, false, cond, List, [], ◌∷◌, length, refl, ap, arith, length-append, Option, Some, None, option_map, Result, Ok, Err}
+use Rattle.std.proofs.Common.{◌≡◌, ◌∙◌, ◌+◌, ℕ, Bool, true, false, cond, List, [], ◌∷◌, length, refl, ap, arith, length-append, Option}
+use Rattle.std.proofs.Common.{Some, None, option_map, Result, Ok, Err}
 use Rattle.std.specs.Prelude.{is_some, ok_or, codes, ◌==◌, ◌&&◌, ◌||◌, ◌/◌, ◌%◌}
 use Rattle.std.specs.Option.{option_or, option_map_or}
 use Rattle.std.proofs.lemmas.Bool.Decides.{nat_tests}
@@ -16,9 +17,11 @@ use Rattle.git_date.specs.Tokens.Steps.{and_then}
 use Rattle.git_date.specs.Tokens.Tokens.{Token, Letters, Digits, Mark, texts, bytes_left}
 use Rattle.git_date.specs.Rules.Clocks.{utc_clock}
 use Rattle.git_date.specs.Rules.Dates.{year_date}
-use Rattle.git_date.specs.Rules.Digits.{Stepped, is_epoch, with_epoch, by_date, bare_digits, unless_large, grouped, group_said, group_or_bare, digits_rule}
+use Rattle.git_date.specs.Rules.Digits.{Stepped, is_epoch, with_epoch, by_date, bare_digits, unless_large, grouped, group_said}
+use Rattle.git_date.specs.Rules.Digits.{group_or_bare, digits_rule}
 use Rattle.git_date.specs.Rules.Fields.{with_clock, knows_date}
-use Rattle.git_date.specs.Rules.Groups.{ReadTokens, number_at, marked_number, is_group_mark, third_or_none, group_of, day_month_group, group_rule, large_number, large_in, without_fraction, after_group}
+use Rattle.git_date.specs.Rules.Groups.{ReadTokens, number_at, marked_number, is_group_mark, third_or_none, group_of, day_month_group}
+use Rattle.git_date.specs.Rules.Groups.{group_rule, large_number, large_in, without_fraction, after_group}
 use Rattle.git_date.specs.Rules.Words.{with_word, letters_rule, without_ending, is_ending}
 use Rattle.git_date.specs.Exact.Reading.{ended}
 use Rattle.git_date_laws.proofs.Alike.Spelling.{IsSpelling, ending-agrees, word-agrees}
@@ -59,7 +62,8 @@ by-true m true x y p q e f = e refl
 by-true m false x y p q e f = f
 
 -- the first of two places
-pub first-farther : (k : ℕ) (a b : Option ℕ) → option_or (option_map (λ left. left + k) a) (option_map (λ left. left + k) b) ≡ option_map (λ left. left + k) (option_or a b)
+pub first-farther : (k : ℕ) (a b : Option ℕ)
+    → option_or (option_map (λ left. left + k) a) (option_map (λ left. left + k) b) ≡ option_map (λ left. left + k) (option_or a b)
 first-farther k None b = refl
 first-farther k (Some left) b = refl
 
@@ -89,7 +93,8 @@ third-end (Some (Digits run ∷ more)) mark first second e = rw e refl
 third-end (Some ts) mark first second e = refl
 
 third-mark-end : (stop : Option (List Token)) (mark first : ℕ) (second : Number) (byte : ℕ)
-    → third_or_none mark first second (Mark byte ∷ after stop) (marked_number (Mark byte ∷ after stop)) ≡ (group_by mark first second None, Mark byte ∷ after stop)
+    → third_or_none mark first second (Mark byte ∷ after stop) (marked_number (Mark byte ∷ after stop))
+    ≡ (group_by mark first second None, Mark byte ∷ after stop)
 unfolding marked_number
 third-mark-end None mark first second byte = refl
 third-mark-end (Some lines) mark first second byte = refl
@@ -110,7 +115,8 @@ unfolding without_ending
 ending-end None = refl
 ending-end (Some lines) = refl
 
-word-end : (stop : Option (List Token)) (run : List ℕ) → without_ending (Letters run ∷ after stop) ≡ cond (is_ending run) (after stop) (Letters run ∷ after stop)
+word-end : (stop : Option (List Token)) (run : List ℕ)
+    → without_ending (Letters run ∷ after stop) ≡ cond (is_ending run) (after stop) (Letters run ∷ after stop)
 unfolding without_ending
 word-end None run = refl
 word-end (Some lines) run = refl
@@ -130,7 +136,8 @@ module _ (spell : List ℕ → List ℕ) (same : IsSpelling spell) (stop : Optio
 
   pub left-is : (ts : List Token) → bytes_left (φ ts) ≡ bytes_left ts + k
   left-is [] = omega arith
-  left-is (Letters run ∷ more) = omega (arith, length-append (spell run) (texts (φ more)), length-append run (texts more), same.sized run, left-is more)
+  left-is (Letters run ∷ more) =
+      omega (arith, length-append (spell run) (texts (φ more)), length-append run (texts more), same.sized run, left-is more)
   left-is (Digits run ∷ more) = omega (arith, length-append run (texts (φ more)), length-append run (texts more), left-is more)
   left-is (Mark byte ∷ more) = omega (arith, left-is more)
 
@@ -158,7 +165,8 @@ module _ (spell : List ℕ → List ℕ) (same : IsSpelling spell) (stop : Optio
   number-is run more = ap (λ (left : ℕ). let n : Number = record { value = number run; left = left } in n) (left-is (Digits run ∷ more))
 
   third-is : (mark first : ℕ) (second : Number) (ts : List Token) → is_group_mark mark ≡ true
-      → third_or_none mark first (far second) (φ ts) (marked_number (φ ts)) ≡ moved_group (third_or_none mark first second ts (marked_number ts))
+      → third_or_none mark first (far second) (φ ts) (marked_number (φ ts))
+      ≡ moved_group (third_or_none mark first second ts (marked_number ts))
   unfolding marked_number
   third-is mark first second [] h = third-end stop mark first (far second) (no-newline mark h)
   third-is mark first second (Letters run ∷ more) h = refl
@@ -167,7 +175,8 @@ module _ (spell : List ℕ → List ℕ) (same : IsSpelling spell) (stop : Optio
   third-is mark first second (Mark byte ∷ Letters run ∷ more) h = refl
   third-is mark first second (Mark byte ∷ Mark other ∷ more) h = refl
   third-is mark first second (Mark byte ∷ Digits run ∷ more) h =
-      by-true moved_group (byte == mark) _ _ _ _ (λ e. ap (λ (n : Number). (group_by mark first (far second) (Some n), φ more)) (number-is run more)) refl
+      by-true moved_group (byte == mark) _ _ _ _
+      (λ e. ap (λ (n : Number). (group_by mark first (far second) (Some n), φ more)) (number-is run more)) refl
 
   group-is : (first : ℕ) (ts : List Token) → group_of first (φ ts) ≡ option_map moved_group (group_of first ts)
   unfolding group_of marked_number
@@ -179,13 +188,15 @@ module _ (spell : List ℕ → List ℕ) (same : IsSpelling spell) (stop : Optio
   group-is first (Mark byte ∷ Mark other ∷ more) = refl
   group-is first (Mark byte ∷ Digits run ∷ more) =
       by-true (option_map moved_group) (is_group_mark byte) _ _ _ _
-      (λ e. ap Some (ap (λ (n : Number). third_or_none byte first n (φ more) (marked_number (φ more))) (number-is run more) ∙ third-is byte first (number_at run more) more e)) refl
+      (λ e. ap Some (ap (λ (n : Number). third_or_none byte first n (φ more) (marked_number (φ more))) (number-is run more)
+      ∙ third-is byte first (number_at run more) more e)) refl
 
   rule-same : (now : Now) (f : Fields) (g : Group) → group_rule now f (far_group g) ≡ group_rule now f g
   unfolding group_rule day_month_group
   rule-same now f g = by g.third
     where
-      by : (third : Option Number) → group_rule now f (group_by g.mark g.first (far g.second) (option_map far third)) ≡ group_rule now f (group_by g.mark g.first g.second third)
+      by : (third : Option Number) → group_rule now f (group_by g.mark g.first (far g.second) (option_map far third))
+          ≡ group_rule now f (group_by g.mark g.first g.second third)
       by None = refl
       by (Some n) = refl
 
@@ -220,28 +231,38 @@ module _ (spell : List ℕ → List ℕ) (same : IsSpelling spell) (stop : Optio
   after-is : (f : Fields) (g : Group) (more : List Token) → after_group f (far_group g) (φ more) ≡ φ (after_group f g more)
   after-is f g more = by-true φ (g.mark == colon && knows_date f) _ _ _ _ (λ e. fraction-is more) refl
 
-  grouped-is : (left : ℕ) (g : Group) (more : List Token) (d : Dated) → grouped (left + k) (far_group g) (φ more) d ≡ moved_said (grouped left g more d)
+  grouped-is : (left : ℕ) (g : Group) (more : List Token) (d : Dated)
+      → grouped (left + k) (far_group g) (φ more) d ≡ moved_said (grouped left g more d)
   grouped-is left g more (dated.Taken f) =
-      ap (λ (rest : List Token). unless_large (far_group g) (Ok (Some (f, rest)))) (after-is f g more) ∙ unless-is g (Ok (Some (f, after_group f g more)))
+      ap (λ (rest : List Token). unless_large (far_group g) (Ok (Some (f, rest)))) (after-is f g more)
+      ∙ unless-is g (Ok (Some (f, after_group f g more)))
   grouped-is left g more dated.Refused = refl
   grouped-is left g more dated.YearRefused = unless-is g (Err (YearRefused left))
 
-  pub said-is : (now : Now) (f : Fields) (run : List ℕ) (more : List Token) → group_said now f run (φ more) ≡ moved_said (group_said now f run more)
+  pub said-is : (now : Now) (f : Fields) (run : List ℕ) (more : List Token)
+      → group_said now f run (φ more) ≡ moved_said (group_said now f run more)
   unfolding group_said
   said-is now f run more =
-      (λ i. option_map_or (λ (found : Group × List Token). grouped (left-is (Digits run ∷ more) i) found.0 found.1 (group_rule now f found.0)) (group-is (number run) more i) (Ok None))
+      (λ i. option_map_or
+      (λ (found : Group × List Token). grouped (left-is (Digits run ∷ more) i) found.0 found.1 (group_rule now f found.0))
+      (group-is (number run) more i) (Ok None))
       ∙ by (group_of (number run) more)
     where
       by : (found : ReadTokens Group)
-          → option_map_or (λ (found : Group × List Token). grouped (bytes_left (Digits run ∷ more) + k) found.0 found.1 (group_rule now f found.0)) (option_map moved_group found) (Ok None)
-          ≡ moved_said (option_map_or (λ (found : Group × List Token). grouped (bytes_left (Digits run ∷ more)) found.0 found.1 (group_rule now f found.0)) found (Ok None))
+          → option_map_or
+          (λ (found : Group × List Token). grouped (bytes_left (Digits run ∷ more) + k) found.0 found.1 (group_rule now f found.0))
+          (option_map moved_group found) (Ok None)
+          ≡ moved_said (option_map_or
+          (λ (found : Group × List Token). grouped (bytes_left (Digits run ∷ more)) found.0 found.1 (group_rule now f found.0)) found
+          (Ok None))
       by None = refl
       by (Some found) =
           ap (grouped (bytes_left (Digits run ∷ more) + k) (far_group found.0) (φ found.1)) (rule-same now f found.0)
           ∙ grouped-is (bytes_left (Digits run ∷ more)) found.0 found.1 (group_rule now f found.0)
 
   -- endings
-  word-ended : (run : List ℕ) (more : List Token) → cond (is_ending (spell run)) (φ more) (Letters (spell run) ∷ φ more) ≡ φ (cond (is_ending run) more (Letters run ∷ more))
+  word-ended : (run : List ℕ) (more : List Token)
+      → cond (is_ending (spell run)) (φ more) (Letters (spell run) ∷ φ more) ≡ φ (cond (is_ending run) more (Letters run ∷ more))
   word-ended run more =
       ap (λ (b : Bool). cond b (φ more) (Letters (spell run) ∷ φ more)) (ending-agrees spell same run)
       ∙ by-true φ (is_ending run) more (Letters run ∷ more) _ _ (λ e. refl) refl
@@ -277,7 +298,8 @@ module _ (spell : List ℕ → List ℕ) (same : IsSpelling spell) (stop : Optio
   date-is run more dated.YearRefused = ap (λ (left : ℕ). Err (YearRefused left)) (left-is (Digits run ∷ more))
 
   clock-is : (more : List Token) (found : Option Fields)
-      → ◌≡◌ {A = Stepped} (Ok (found, cond (is_some found) (without_fraction (φ more)) (φ more))) (moved (Ok (found, cond (is_some found) (without_fraction more) more)))
+      → ◌≡◌ {A = Stepped} (Ok (found, cond (is_some found) (without_fraction (φ more)) (φ more)))
+      (moved (Ok (found, cond (is_some found) (without_fraction more) more)))
   clock-is more None = refl
   clock-is more (Some f) = ap (λ (rest : List Token). Ok (Some f, rest)) (fraction-is more)
 
@@ -289,7 +311,8 @@ module _ (spell : List ℕ → List ℕ) (same : IsSpelling spell) (stop : Optio
       (by-true moved (length run == 6) _ _ _ _ (λ e. clock-is more (with_clock f (n / 10_000) (n / 100 % 100) (n % 100)))
       (by-true moved (length run == 4) _ _ _ _ (λ e. refl) (by-true moved (length run == 1 || length run == 2) _ _ _ _ (λ e. refl) refl)))
 
-  epoch-is : (f : Fields) (more : List Token) (shown : Option LocalTime) → ok_or (option_map (λ shown. (Some (with_epoch f shown), φ more)) shown) Range
+  epoch-is : (f : Fields) (more : List Token) (shown : Option LocalTime)
+      → ok_or (option_map (λ shown. (Some (with_epoch f shown), φ more)) shown) Range
       ≡ moved (ok_or (option_map (λ shown. (Some (with_epoch f shown), more)) shown) Range)
   epoch-is f more None = refl
   epoch-is f more (Some shown) = refl
@@ -300,7 +323,8 @@ module _ (spell : List ℕ → List ℕ) (same : IsSpelling spell) (stop : Optio
   or-bare-is f run more (Ok (Some found)) = refl
   or-bare-is f run more (Err e) = refl
 
-  pub digits-is : (now : Now) (f : Fields) (run : List ℕ) (more : List Token) → digits_rule now f run (φ more) ≡ moved (digits_rule now f run more)
+  pub digits-is : (now : Now) (f : Fields) (run : List ℕ) (more : List Token)
+      → digits_rule now f run (φ more) ≡ moved (digits_rule now f run more)
   unfolding digits_rule
   digits-is now f run more =
       by-true moved (is_epoch f (number run)) _ _ _ _ (λ e. epoch-is f more (utc_clock (number run)))

@@ -1,5 +1,6 @@
 -- Texts that are read up to their first NUL: in letter case, and where more follows.
-use Rattle.std.proofs.Common.{◌≡◌, ◌∙◌, ◌<◌, ℕ, nat_lt, cond, List, [], ◌∷◌, ◌++◌, length, take, refl, ap, ap₂, sym, arith, length-append, Option, Some, None, Result, Ok, Err}
+use Rattle.std.proofs.Common.{◌≡◌, ◌∙◌, ◌<◌, ℕ, nat_lt, cond, List, [], ◌∷◌, ◌++◌, length, take, refl, ap, ap₂, sym, arith, length-append}
+use Rattle.std.proofs.Common.{Option, Some, None, Result, Ok, Err}
 use Rattle.std.specs.Char.{to_ascii_lowercase}
 use Rattle.std.specs.Option.{option_or}
 use Rattle.std.specs.Str.{str_to_ascii_lowercase}
@@ -41,7 +42,8 @@ by-nul : (text : List ℕ) (P : Type 0) → (string_len text < length text → P
 by-nul text P some none = grind (arith, nat_lt, nat_tests, within)
 
 -- what a reader of texts without NUL makes of any text: `up` adds a place to what is ignored
-module _ (A : Type 0) (up : Option ℕ → A → A) (of : List ℕ → A) (first : (other : Option ℕ) (place : ℕ) (x : A) → up other (up (Some place) x) ≡ up (Some place) x)
+module _ (A : Type 0) (up : Option ℕ → A → A) (of : List ℕ → A)
+    (first : (other : Option ℕ) (place : ℕ) (x : A) → up other (up (Some place) x) ≡ up (Some place) x)
     (none : (x : A) → up None x ≡ x) where
   abbrev cut : List ℕ → A
   cut text = up (nul_place text) (of (before_nul text))
@@ -55,7 +57,8 @@ module _ (A : Type 0) (up : Option ℕ → A → A) (of : List ℕ → A) (first
       by-nul text _
       (λ less.
       let len = same-len text more less in
-      let place : nul_place (text ++ more) ≡ Some (string_len text) = some_place_is (text ++ more) (omega (arith, len, less, length-append text more)) ∙ ap (λ (n : ℕ). Some n) len in
+      let place : nul_place (text ++ more) ≡ Some (string_len text) =
+      some_place_is (text ++ more) (omega (arith, len, less, length-append text more)) ∙ ap (λ (n : ℕ). Some n) len in
       ap (λ (x : List ℕ). up (nul_place (text ++ more)) (of x)) (same-before text more len)
       ∙ ap (λ (p : Option ℕ). up p (of (before_nul text))) place
       ∙ sym (first (nul_place (text ++ more)) (string_len text) (of (before_nul text)))
@@ -67,11 +70,13 @@ first-or : (ignored other : Option ℕ) (place : ℕ) → option_or (option_or i
 first-or None other place = refl
 first-or (Some left) other place = refl
 
-first-said : (other : Option ℕ) (place : ℕ) (said : Result Said DateError) → said_up_to other (said_up_to (Some place) said) ≡ said_up_to (Some place) said
+first-said : (other : Option ℕ) (place : ℕ) (said : Result Said DateError)
+    → said_up_to other (said_up_to (Some place) said) ≡ said_up_to (Some place) said
 first-said other place (Ok said) = ap (λ (ignored : Option ℕ). Ok (record said { ignored = ignored })) (first-or said.ignored other place)
 first-said other place (Err e) = refl
 
-pub said-at-more : (now : Now) (text more : List ℕ) → (string_len text ≡ length text → string_said now (text ++ before_nul more) ≡ string_said now text)
+pub said-at-more : (now : Now) (text more : List ℕ)
+    → (string_len text ≡ length text → string_said now (text ++ before_nul more) ≡ string_said now text)
     → said_by now (text ++ more) ≡ said_up_to (nul_place (text ++ more)) (said_by now text)
 unfolding said_by
 said-at-more now text more same = at-more (Result Said DateError) said_up_to (string_said now) first-said all-said text more same
@@ -85,7 +90,8 @@ pub record IsUpTo (place : Option ℕ) (found : Result Approximate DateError) (d
 pub same-ok : {A E : Type 0} (a b : A) → ◌≡◌ {A = Result A E} (Ok a) (Ok b) → a ≡ b
 same-ok a b e = cc
 
-up-to-parts : (place : Option ℕ) (found : Result Approximate DateError) (date : Approximate) → answer_up_to place found ≡ Ok date → IsUpTo place found date
+up-to-parts : (place : Option ℕ) (found : Result Approximate DateError) (date : Approximate) → answer_up_to place found ≡ Ok date
+    → IsUpTo place found date
 up-to-parts place (Ok before) date e = record { before = before; is_found = refl; is = sym (same-ok _ date e) }
 up-to-parts place (Err wrong) date e = absurd cc
 

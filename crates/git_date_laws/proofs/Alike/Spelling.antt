@@ -2,9 +2,9 @@
 use Rattle.std.proofs.Common.{◌≡◌, ◌+◌, ℕ, ℤ, Bool, cond, List, [], ◌∷◌, length, refl, ap₂, is_some, Some, option_map}
 use Rattle.std.specs.Prelude.{◌==◌, ◌&&◌, ◌||◌, codes, take, nat_le}
 use Rattle.std.specs.List.{position, find, list_any}
-use Rattle.gix_date.specs.Text.Names.{is_name, named_in, number_names}
+use Rattle.gix_date.specs.Text.Names.{is_name, named_in, number_names, whole_month_names}
 use Rattle.git_date.specs.Tokens.Names.{is_zone_name, zone_rows, is_weekday, zone_named}
-use Rattle.gix_date.specs.Text.LongNames.{is_short, long_month_names, long_day_names, month_told, weekday_told}
+use Rattle.gix_date.specs.Text.LongNames.{is_short, long_day_names, month_told, weekday_told}
 use Rattle.git_date.specs.Rules.Words.{filler_words, ending_words, is_filler, half_or_filler, with_word, is_ending, with_zone}
 use Rattle.git_date.specs.Types.Names.{Fields}
 use Rattle.git_date.specs.Approximate.Words.{moment_names, moment_named, count_named, is_unit, unit_names, unit_named, meaning_of}
@@ -26,7 +26,7 @@ module _ (spell : List ℕ → List ℕ) (same : IsSpelling spell) where
 
   pub month-agrees : (word : List ℕ) → month_told (spell word) ≡ month_told word
   unfolding month_told
-  month-agrees word = λ i. option_map (λ place. place + 1) (position (λ name. short-agrees word name i) long_month_names)
+  month-agrees word = λ i. option_map (λ place. place + 1) (position (λ name. short-agrees word name i) whole_month_names)
 
   weekday-agrees : (word : List ℕ) → is_weekday (spell word) ≡ is_weekday word
   unfolding is_weekday weekday_told
@@ -54,7 +54,8 @@ module _ (spell : List ℕ → List ℕ) (same : IsSpelling spell) where
   -- what words say
   named-agrees : {A : Type 0} (rows : List (List ℕ × A)) (word : List ℕ) → named_in rows (spell word) ≡ named_in rows word
   named-agrees [] word = refl
-  named-agrees ((name, said) ∷ rows) word = ap₂ (λ (b : Bool) other. cond b (Some said) other) (same.named word name) (named-agrees rows word)
+  named-agrees ((name, said) ∷ rows) word =
+      ap₂ (λ (b : Bool) other. cond b (Some said) other) (same.named word name) (named-agrees rows word)
 
   moment-agrees : (word : List ℕ) → moment_named (spell word) ≡ moment_named word
   unfolding moment_named
@@ -63,9 +64,11 @@ module _ (spell : List ℕ → List ℕ) (same : IsSpelling spell) where
   count-agrees : (word : List ℕ) → count_named (spell word) ≡ count_named word
   unfolding count_named
   count-agrees word =
-      λ i. cond (same.named word (codes "last") i) (Some 1) (option_map (λ place. place + 1) (position (λ name. same.named word name i) number_names))
+      λ i. cond (same.named word (codes "last") i) (Some 1)
+      (option_map (λ place. place + 1) (position (λ name. same.named word name i) number_names))
 
-  begins-agrees : (word name : List ℕ) → (nat_le (length (spell word)) (length name) && is_name (spell word) (take (length (spell word)) name))
+  begins-agrees : (word name : List ℕ)
+      → (nat_le (length (spell word)) (length name) && is_name (spell word) (take (length (spell word)) name))
       ≡ (nat_le (length word) (length name) && is_name word (take (length word) name))
   begins-agrees word name = rw (same.sized word, same.named word (take (length word) name))
 
@@ -84,5 +87,7 @@ module _ (spell : List ℕ → List ℕ) (same : IsSpelling spell) where
   pub meaning-agrees : (word : List ℕ) → meaning_of (spell word) ≡ meaning_of word
   unfolding meaning_of
   meaning-agrees word =
-      λ i. option_or (option_map meaning.Month (month-agrees word i)) (option_or (moment-agrees word i) (option_or (option_map meaning.Count (count-agrees word i))
-      (option_or (option_map (λ day. meaning.Unit (counted.Weekday day)) (weekday-named-agrees word i)) (option_map meaning.Unit (unit-agrees word i)))))
+      λ i. option_or (option_map meaning.Month (month-agrees word i))
+      (option_or (moment-agrees word i) (option_or (option_map meaning.Count (count-agrees word i))
+      (option_or (option_map (λ day. meaning.Unit (counted.Weekday day)) (weekday-named-agrees word i))
+      (option_map meaning.Unit (unit-agrees word i)))))

@@ -1,5 +1,6 @@
 -- Letter case and later lines.
-use Rattle.std.proofs.Common.{◌≡◌, ◌∙◌, ◌≤◌, ◌+◌, ℕ, ℤ, Bool, true, false, cond, List, [], ◌∷◌, ◌++◌, length, refl, ap, ap₂, sym, arith, length-append, Option, Some, None, option_map, Result, Ok, Err}
+use Rattle.std.proofs.Common.{◌≡◌, ◌∙◌, ◌≤◌, ◌+◌, ℕ, ℤ, Bool, true, false, cond, List, [], ◌∷◌, ◌++◌, length, refl, ap, ap₂, sym, arith}
+use Rattle.std.proofs.Common.{length-append, Option, Some, None, option_map, Result, Ok, Err}
 use Rattle.std.proofs.Math.Numerals.{one-add}
 use Rattle.std.proofs.lemmas.List.{length-map}
 use Rattle.std.specs.Char.{is_ascii_alphabetic, is_ascii_digit, to_ascii_lowercase}
@@ -12,7 +13,8 @@ use Rattle.gix_date.specs.Text.Names.{is_name}
 use Rattle.git_date.specs.Tokens.Tokens.{Token, Letters, Mark, letter_before, digit_before, tokens, bytes_left}
 use Rattle.git_date.specs.Rules.Dates.{exact_seconds}
 use Rattle.git_date.specs.Rules.Offsets.{at_text}
-use Rattle.git_date.specs.Exact.Reading.{nothing_read, steps, reading_of, place_in, by_seconds, fields_said, at_or_fields, said_up_to, string_said, said_by}
+use Rattle.git_date.specs.Exact.Reading.{nothing_read, steps, reading_of, place_in, by_seconds, fields_said, at_or_fields, said_up_to}
+use Rattle.git_date.specs.Exact.Reading.{string_said, said_by}
 use Rattle.git_date.specs.Tokens.Strings.{before_nul, nul_place}
 use Rattle.git_date.specs.Types.Names.{Now}
 use Rattle.git_date.specs.Types.Names.{Fault}
@@ -58,12 +60,14 @@ module _ (spell : List ℕ → List ℕ) (same : IsSpelling spell) (stop : Optio
 
   at-or-same : (found : Option (ℕ × ℤ)) → IsClosed stop (tokens text) → at_or_fields now other found ≡ at_or_fields now text found
   at-or-same (Some found) closed = refl
-  at-or-same None closed = ap (fields_said other) (reading-same closed) ∙ same-fields text other (bytes_left (after stop)) (reading_of now text) long
+  at-or-same None closed = ap (fields_said other) (reading-same closed)
+      ∙ same-fields text other (bytes_left (after stop)) (reading_of now text) long
 
   said-same : IsClosed stop (tokens text) → IsClosedAt stop (tokens text) → string_said now other ≡ string_said now text
   unfolding string_said
   said-same closed closed_at =
-      ap (at_or_fields now other) (ap at_text read ∙ at-is spell same stop (tokens text) closed_at) ∙ at-or-same (at_text (tokens text)) closed
+      ap (at_or_fields now other) (ap at_text read ∙ at-is spell same stop (tokens text) closed_at)
+      ∙ at-or-same (at_text (tokens text)) closed
 
 -- letter case
 twice : (word : List ℕ) → str_to_ascii_lowercase (str_to_ascii_lowercase word) ≡ str_to_ascii_lowercase word
@@ -110,7 +114,8 @@ pub tokens-lower : (text : List ℕ) → tokens (str_to_ascii_lowercase text) �
 unfolding tokens
 tokens-lower [] = refl
 tokens-lower (c ∷ text) =
-    ap (byte_by (is_ascii_alphabetic (to_ascii_lowercase c)) (is_ascii_digit (to_ascii_lowercase c)) (to_ascii_lowercase c)) (tokens-lower text)
+    ap (byte_by (is_ascii_alphabetic (to_ascii_lowercase c)) (is_ascii_digit (to_ascii_lowercase c)) (to_ascii_lowercase c))
+    (tokens-lower text)
     ∙ lower-byte (is_ascii_alphabetic c) c (tokens text) refl
 
 string-said-lower : (now : Now) (text : List ℕ) → string_said now (str_to_ascii_lowercase text) ≡ string_said now text
@@ -127,7 +132,8 @@ equal-bytes a b h = (bytes_eq-Decides a b).0 h
 
 pub same-case : (now : Now) (text other : List ℕ) → is_name text other ≡ true → said_by now text ≡ said_by now other
 same-case now text other same =
-    sym (said-lower now text) ∙ ap (said_by now) (equal-bytes (str_to_ascii_lowercase text) (str_to_ascii_lowercase other) same) ∙ said-lower now other
+    sym (said-lower now text) ∙ ap (said_by now) (equal-bytes (str_to_ascii_lowercase text) (str_to_ascii_lowercase other) same)
+    ∙ said-lower now other
 
 -- later lines
 abbrev as_written : List ℕ → List ℕ
@@ -139,7 +145,8 @@ written = record { named = λ word name. refl; sized = λ word. refl }
 abbrev with_lines : List Token → List Token → List Token
 with_lines lines ts = changed as_written (Some lines) ts
 
-lines-letters : (lines : List Token) (c : ℕ) (ts : List Token) → letter_before c (with_lines lines ts) ≡ with_lines lines (letter_before c ts)
+lines-letters : (lines : List Token) (c : ℕ) (ts : List Token)
+    → letter_before c (with_lines lines ts) ≡ with_lines lines (letter_before c ts)
 lines-letters lines c (Letters run ∷ more) = refl
 lines-letters lines c ts = refl
 
@@ -160,11 +167,15 @@ tokens-lines lines (c ∷ text) =
     ap (byte_by (is_ascii_alphabetic c) (is_ascii_digit c) c) (tokens-lines lines text)
     ∙ lines-byte (tokens lines) (is_ascii_alphabetic c) (is_ascii_digit c) c (tokens text)
 
-same-string-lines : (now : Now) (text lines : List ℕ) → AreComplete (tokens text) → string_said now (text ++ newline ∷ lines) ≡ string_said now text
+same-string-lines : (now : Now) (text lines : List ℕ) → AreComplete (tokens text)
+    → string_said now (text ++ newline ∷ lines) ≡ string_said now text
 same-string-lines now text lines complete =
-    let left : bytes_left (Mark newline ∷ tokens lines) ≡ length (newline ∷ lines) = ap (λ (bytes : List ℕ). length (newline ∷ bytes)) (texts_are lines) in
-    let long : length (text ++ newline ∷ lines) ≡ length text + bytes_left (Mark newline ∷ tokens lines) = omega (arith, length-append text (newline ∷ lines)) in
-    said-same as_written written (Some (tokens lines)) now text (text ++ newline ∷ lines) (tokens-lines lines text) long complete.0 complete.1
+    let left : bytes_left (Mark newline ∷ tokens lines) ≡ length (newline ∷ lines) =
+    ap (λ (bytes : List ℕ). length (newline ∷ bytes)) (texts_are lines) in
+    let long : length (text ++ newline ∷ lines) ≡ length text + bytes_left (Mark newline ∷ tokens lines) =
+    omega (arith, length-append text (newline ∷ lines)) in
+    said-same as_written written (Some (tokens lines)) now text (text ++ newline ∷ lines) (tokens-lines lines text) long complete.0
+    complete.1
 
 -- a NUL in later lines is ignored
 newline-first : (lines : List ℕ) → before_nul (newline ∷ lines) ≡ newline ∷ before_nul lines

@@ -1,11 +1,13 @@
 -- The exact reader reads nothing in `n UNIT ago`: it knows no clock with a year.
-use Rattle.std.proofs.Common.{◌≡◌, ◌∙◌, ◌<◌, ℕ, zero, suc, ◌/◌, ◌%◌, nat_le, nat_lt, true, false, cond, List, [], ◌∷◌, length, Option, Some, None, Ok, Err, is_none, refl, ap, arith}
+use Rattle.std.proofs.Common.{◌≡◌, ◌∙◌, ◌<◌, ℕ, zero, suc, ◌/◌, ◌%◌, nat_le, nat_lt, true, false, cond, List, [], ◌∷◌, length, Option, Some}
+use Rattle.std.proofs.Common.{None, Ok, Err, is_none, refl, ap, arith}
 use Rattle.std.specs.Prelude.{codes, ◌==◌, ◌&&◌, ◌||◌, option_map, is_some}
 use Rattle.std.proofs.lemmas.Bool.Decides.{nat_tests}
 use Rattle.git_date.proofs.Rules.Kept.{either}
 use Rattle.git_date.proofs.Exact.NoSeconds.{AreAll, Keeps, read-quiet, no-seconds}
 use Rattle.git_date.specs.Rules.Dates.{last_year}
-use Rattle.git_date.specs.Rules.Digits.{Stepped, min_epoch, is_epoch, bare_digits, four_digits, few_digits, or_month, digits_rule, group_said}
+use Rattle.git_date.specs.Rules.Digits.{Stepped, min_epoch, is_epoch, bare_digits, four_digits, few_digits, or_month, digits_rule}
+use Rattle.git_date.specs.Rules.Digits.{group_said}
 use Rattle.git_date.specs.Rules.Fields.{unknown, with_clock}
 use Rattle.git_date.specs.Rules.Groups.{group_of, marked_number, without_fraction}
 use Rattle.git_date.specs.Tokens.Numbers.{number, is_too_large}
@@ -48,11 +50,13 @@ few-lack width n = grind (arith, either, nat_le, year-lack)
 abbrev pub Lacking : List Token → Stepped → Type 0
 Lacking more step = (next : Option Fields) × (step ≡ Ok (next, more)) × AllLack next
 
-clock-next : (more : List Token) (o : Option Fields) → without_fraction more ≡ more → ◌≡◌ {A = Option Fields × List Token} (o, cond (is_some o) (without_fraction more) more) (o, more)
+clock-next : (more : List Token) (o : Option Fields) → without_fraction more ≡ more
+    → ◌≡◌ {A = Option Fields × List Token} (o, cond (is_some o) (without_fraction more) more) (o, more)
 clock-next more (Some f) e = ap (λ (ts : List Token). (Some f, ts)) e
 clock-next more None e = refl
 
-pub bare-lacks : (run : List ℕ) (more : List Token) → without_fraction more ≡ more → (length run == 8) ≡ false → Lacking more (bare_digits unknown run more)
+pub bare-lacks : (run : List ℕ) (more : List Token) → without_fraction more ≡ more → (length run == 8) ≡ false
+    → Lacking more (bare_digits unknown run more)
 unfolding bare_digits
 bare-lacks run more kept e =
     let n = number run in
@@ -60,7 +64,8 @@ bare-lacks run more kept e =
     rw e
     (either (Lacking more) (length run == 6) _ _ (clock, ap (λ p. Ok p) (clock-next more clock kept), clock-lacks n)
     (either (Lacking more) (length run == 4) _ _ (four_digits unknown n, refl, four-lack n)
-    (either (Lacking more) (length run == 1 || length run == 2) _ _ (few_digits unknown (length run) n, refl, few-lack (length run) n) (None, refl, tt))))
+    (either (Lacking more) (length run == 1 || length run == 2) _ _ (few_digits unknown (length run) n, refl, few-lack (length run) n)
+    (None, refl, tt))))
 
 abbrev followed : ℕ → List ℕ → List Token → List Token
 followed gap unit more = Mark gap ∷ Letters unit ∷ more
@@ -80,17 +85,21 @@ IsNoNumber (Letters run) = Unit {0}
 IsNoNumber (Digits run) = ⊥
 IsNoNumber (Mark byte) = Unit {0}
 
-module _ (now : Now) (text digits : List ℕ) (gap : ℕ) (unit : List ℕ) (last : ℕ) (no_date : (length digits == 8) ≡ false) (no_epoch : number digits < min_epoch) where
+module _ (now : Now) (text digits : List ℕ) (gap : ℕ) (unit : List ℕ) (last : ℕ) (no_date : (length digits == 8) ≡ false)
+    (no_epoch : number digits < min_epoch) where
   abbrev rest : List Token
   rest = followed gap unit (Mark last ∷ Letters (codes "ago") ∷ [])
 
-  silent : (n : ℕ) (r : Reading) (ts : List Token) → Lacks r.fields.year r.fields.minute → AreAll IsNoNumber ts → fields_said text (steps now n r ts) ≡ Err Unreadable
+  silent : (n : ℕ) (r : Reading) (ts : List Token) → Lacks r.fields.year r.fields.minute → AreAll IsNoNumber ts
+      → fields_said text (steps now n r ts) ≡ Err Unreadable
   silent n r ts = no-seconds Lacks IsNoNumber (λ year minute e. e) (λ run q. absurd q) now (λ f run more e q. absurd q.0) text n r ts
 
-  after-digits : (n left : ℕ) (s : Stepped) → Lacking rest s → fields_said text (and_then (ended s) (λ next. steps now n (read_on nothing_read left next.0) next.1)) ≡ Err Unreadable
+  after-digits : (n left : ℕ) (s : Stepped) → Lacking rest s
+      → fields_said text (and_then (ended s) (λ next. steps now n (read_on nothing_read left next.0) next.1)) ≡ Err Unreadable
   unfolding without_ending
   after-digits n left s found =
-      rw found.1 (silent n (read_on nothing_read left found.0) rest (read-quiet Lacks nothing_read left found.0 refl found.2) (tt, (tt, (tt, (tt, tt)))))
+      rw found.1 (silent n (read_on nothing_read left found.0) rest (read-quiet Lacks nothing_read left found.0 refl found.2)
+      (tt, (tt, (tt, (tt, tt)))))
 
   walked-over : (n : ℕ) → fields_said text (steps now n nothing_read (Digits digits ∷ rest)) ≡ Err Unreadable
   unfolding walked
@@ -101,5 +110,6 @@ module _ (now : Now) (text digits : List ℕ) (gap : ℕ) (unit : List ℕ) (las
   pub nothing-said : tokens text ≡ Digits digits ∷ rest → string_said now text ≡ Err Unreadable
   unfolding string_said at_text reading_of
   nothing-said is =
-      ap (λ (ts : List Token). at_or_fields now text (at_text ts)) is ∙ ap (λ (ts : List Token). fields_said text (steps now (length text) nothing_read ts)) is
+      ap (λ (ts : List Token). at_or_fields now text (at_text ts)) is
+      ∙ ap (λ (ts : List Token). fields_said text (steps now (length text) nothing_read ts)) is
       ∙ walked-over (length text)

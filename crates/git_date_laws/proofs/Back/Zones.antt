@@ -19,7 +19,8 @@ at-told : (said : Said) (minutes : ℤ) (date : ReadDate) → Ok date ≡ date_a
 unfolding date_at
 at-told said minutes date h = grind (arith)
 
-pub told : (tz : TimeZone) (read : Result Said DateError) (date : ReadDate) → Ok date ≡ date_of tz read → date.has_offset ≡ is_some (said_offset read)
+pub told : (tz : TimeZone) (read : Result Said DateError) (date : ReadDate) → Ok date ≡ date_of tz read
+    → date.has_offset ≡ is_some (said_offset read)
 told tz (Err e) date h = absurd cc
 told tz (Ok said) date h = grind (arith, at-told)
 

@@ -1,6 +1,7 @@
 -- What the approximate reader ignores is the earliest token that is not used.
 use Rattle.std.proofs.Common.{rules}
-use Rattle.std.proofs.Common.{◌≡◌, ◌∙◌, ◌≤◌, max, not, ℕ, zero, suc, true, false, cond, List, [], ◌∷◌, ◌++◌, length, refl, sym, ap, subst, arith, option_map, is_some, Option, Some, None, Result, Ok, Err}
+use Rattle.std.proofs.Common.{◌≡◌, ◌∙◌, ◌≤◌, max, not, ℕ, zero, suc, true, false, cond, List, [], ◌∷◌, ◌++◌, length, refl, sym, ap, subst}
+use Rattle.std.proofs.Common.{arith, option_map, is_some, Option, Some, None, Result, Ok, Err}
 use Rattle.std.proofs.lemmas.Bool.Decides.{nat_tests}
 use Rattle.std.specs.Prelude.{◌==◌, ◌&&◌, ◌||◌}
 use Rattle.std.specs.Option.{option_or}
@@ -9,7 +10,8 @@ use Rattle.gix_date.specs.Relative.Steps.{zone_of}
 use Rattle.gix_date.specs.declared.time.Time.{Time}
 use Rattle.git_date.specs.Approximate.Reading.{Read, approximate_steps, draft_of, answer, answer_of, guess_by, string_guess}
 use Rattle.git_date.specs.Approximate.Drafts.{earlier, first_draft, settle, dropped}
-use Rattle.git_date.specs.Approximate.Rules.{Ruled, hour_rule, unit_rule, meaning_rule, word_by, read_word, understood, approximate_letters_rule, is_padded, number_waits, group_or_number, approximate_digits_rule}
+use Rattle.git_date.specs.Approximate.Rules.{Ruled, hour_rule, unit_rule, meaning_rule, word_by, read_word, understood}
+use Rattle.git_date.specs.Approximate.Rules.{approximate_letters_rule, is_padded, number_waits, group_or_number, approximate_digits_rule}
 use Rattle.git_date.specs.Approximate.Words.{meaning_of}
 use Rattle.git_date.specs.Approximate.Zones.{shown_in, filled_time, moved_to, fill}
 use Rattle.git_date.specs.Exact.Zones.{States, states_of}
@@ -29,7 +31,8 @@ use Rattle.git_date.proofs.Guesses.KeptDrafts.{IsDraftAt, ReadsOn, digits-at}
 use Rattle.git_date_laws.proofs.Alike.Cuts.{IsUpTo, answer-parts, same-ok}
 use Rattle.git_date_laws.proofs.Whole.Guesses.{guessed}
 use Rattle.git_date_laws.proofs.Ignored.Unused.{ending-is}
-use Rattle.git_date_laws.specs.ApproximateIgnored.{place_of, unfit, does_nothing, left_by, unused_letters, unused_digits, Drafted, AtEnd, AtMark, AtLetters, AtDigits, earliest, IsEarliestUnused, IgnoresEarliest}
+use Rattle.git_date_laws.specs.ApproximateIgnored.{place_of, unfit, does_nothing, left_by, unused_letters, unused_digits, Drafted, AtEnd}
+use Rattle.git_date_laws.specs.ApproximateIgnored.{AtMark, AtLetters, AtDigits, earliest, IsEarliestUnused, IgnoresEarliest}
 use Rattle.git_date_laws.specs.Ignored.{takes_group, after_ending}
 use Rattle.gix_date.specs.Fields.Layout.{LocalTime}
 use Rattle.git_date.specs.Tokens.Steps.{and_then}
@@ -85,22 +88,27 @@ module _ (zone : States) (today : LocalTime) where
   unit-keeps : (d next : Draft) (unit : TheUnit) (n : Number) → unit_rule zone today d unit n ≡ Ok next → next.ignored ≡ d.ignored
   unit-keeps d next unit n e = grind (arith, fill-keeps)
 
-  word-leaves : (d next : Draft) (left : ℕ) (said : Option Meaning) → word_by zone today d left said ≡ Ok (Some next) → next.ignored ≡ earliest d.ignored (left_by d said)
+  word-leaves : (d next : Draft) (left : ℕ) (said : Option Meaning) → word_by zone today d left said ≡ Ok (Some next)
+      → next.ignored ≡ earliest d.ignored (left_by d said)
   unfolding meaning_rule
   word-leaves d next left said e = grind (arith, moved-keeps, fill-keeps, hour-keeps, unit-keeps, dropped-leaves, settle-leaves)
 
-  word-does : (d next : Draft) (left : ℕ) (said : Option Meaning) → word_by zone today d left said ≡ Ok (Some next) → does_nothing d.waiting said ≡ false
+  word-does : (d next : Draft) (left : ℕ) (said : Option Meaning) → word_by zone today d left said ≡ Ok (Some next)
+      → does_nothing d.waiting said ≡ false
   unfolding meaning_rule
   word-does d next left said e = grind arith
 
-  word-idle : (d : Draft) (left : ℕ) (said : Option Meaning) → word_by zone today d left said ≡ Ok None → (does_nothing d.waiting said ≡ true) × (left_by d said ≡ [])
+  word-idle : (d : Draft) (left : ℕ) (said : Option Meaning) → word_by zone today d left said ≡ Ok None
+      → (does_nothing d.waiting said ≡ true) × (left_by d said ≡ [])
   unfolding meaning_rule
   word-idle d left said e = (grind arith, grind arith)
 
   read-leaves : (d next : Draft) (run : List ℕ) (left : ℕ) (said : Option Meaning) (ruled : Ruled) → word_by zone today d left said ≡ ruled
-      → read_word d run left ruled ≡ Ok next → next.ignored ≡ earliest d.ignored (cond (does_nothing d.waiting said && not (is_filler run)) (left ∷ []) (left_by d said))
+      → read_word d run left ruled ≡ Ok next
+      → next.ignored ≡ earliest d.ignored (cond (does_nothing d.waiting said && not (is_filler run)) (left ∷ []) (left_by d said))
   read-leaves d next run left said (Ok (Some n)) is e = rw (word-does d n left said is) (grind (arith, word-leaves d n left said is))
-  read-leaves d next run left said (Ok None) is e = let idle = word-idle d left said is in rw (idle.0, idle.1) (grind (arith, nat_tests, one-place))
+  read-leaves d next run left said (Ok None) is e = let idle = word-idle d left said is in
+      rw (idle.0, idle.1) (grind (arith, nat_tests, one-place))
   read-leaves d next run left said (Err wrong) is e = absurd cc
 
   letters-leave : (d next : Draft) (run : List ℕ) (more : List Token) → approximate_letters_rule zone today d run more ≡ Ok next
@@ -110,22 +118,28 @@ module _ (zone : States) (today : LocalTime) where
       grind (arith, nat_tests, one-place, read-leaves d next run (bytes_left (Letters run ∷ more)) (meaning_of run) _ refl)
 
 -- digits
-group-takes : (now : Now) (f : Fields) (run : List ℕ) (more : List Token) (said : Option (Fields × List Token)) → group_said now f run more ≡ Ok said
+group-takes : (now : Now) (f : Fields) (run : List ℕ) (more : List Token) (said : Option (Fields × List Token))
+    → group_said now f run more ≡ Ok said
     → takes_group now f (group_of (number run) more) ≡ is_some said
 unfolding group_said
 group-takes now f run more said e = grind arith
 
-waits-leaves : (d : Draft) (run : List ℕ) (left : ℕ) → (number_waits d run left).ignored ≡ earliest d.ignored (cond (number run == 0 || is_padded run) (left ∷ []) [])
+waits-leaves : (d : Draft) (run : List ℕ) (left : ℕ)
+    → (number_waits d run left).ignored ≡ earliest d.ignored (cond (number run == 0 || is_padded run) (left ∷ []) [])
 waits-leaves d run left = grind (arith, nat_tests, one-place)
 
-group-leaves : (now : Now) (r next : Draft) (run : List ℕ) (more rest : List Token) (said : Result (Option (Fields × List Token)) Fault) → group_said now r.fields run more ≡ said
+group-leaves : (now : Now) (r next : Draft) (run : List ℕ) (more rest : List Token) (said : Result (Option (Fields × List Token)) Fault)
+    → group_said now r.fields run more ≡ said
     → and_then said (λ said. Ok (group_or_number r run more said)) ≡ Ok (next, rest)
-    → next.ignored ≡ earliest r.ignored (cond (not (takes_group now r.fields (group_of (number run) more)) && (number run == 0 || is_padded run)) (bytes_left (Digits run ∷ more) ∷ []) [])
+    → next.ignored ≡ earliest r.ignored (cond
+    (not (takes_group now r.fields (group_of (number run) more)) && (number run == 0 || is_padded run))
+    (bytes_left (Digits run ∷ more) ∷ []) [])
 group-leaves now r next run more rest (Ok (Some found)) is e = rw (group-takes now r.fields run more (Some found) is) (grind arith)
 group-leaves now r next run more rest (Ok None) is e = grind (arith, group-takes, waits-leaves)
 group-leaves now r next run more rest (Err wrong) is e = absurd cc
 
-digits-leave : (now : Now) (d next : Draft) (run : List ℕ) (more rest : List Token) → approximate_digits_rule now d run more ≡ Ok (next, rest)
+digits-leave : (now : Now) (d next : Draft) (run : List ℕ) (more rest : List Token)
+    → approximate_digits_rule now d run more ≡ Ok (next, rest)
     → next.ignored ≡ earliest d.ignored (unused_digits now d run more)
 unfolding approximate_digits_rule
 digits-leave now d next run more rest e =
@@ -146,23 +160,32 @@ module _ (zone : States) (today : Today) where
   at-end d last e = subst (Comes d []) (same-ok d last e) (unfit d.fields d.waiting, AtEnd d, settle-leaves d)
 
   later-on : (d next last : Draft) (ts rest : List Token) (unused : List ℕ) → next.ignored ≡ earliest d.ignored unused
-      → ((later : List ℕ) → Drafted zone today next rest later (settle last) → Drafted zone today d ts (unused ++ later) (settle last)) → Comes next rest last → Comes d ts last
-  later-on d next last ts rest unused leaves step later =
-      (unused ++ later.0, step later.0 later.1, later.2 ∙ ap (λ (i : Option ℕ). earliest i later.0) leaves ∙ sym (both-places d.ignored unused later.0))
+      → ((later : List ℕ) → Drafted zone today next rest later (settle last) → Drafted zone today d ts (unused ++ later) (settle last))
+      → Comes next rest last → Comes d ts last
+  later-on d next last ts rest unused leaves step later = (
+    unused ++ later.0,
+    step later.0 later.1,
+    later.2 ∙ ap (λ (i : Option ℕ). earliest i later.0) leaves
+        ∙ sym (both-places d.ignored unused later.0),
+  )
 
-  letters-then : (n : ℕ) → AreDrafted n → (d last : Draft) (run : List ℕ) (more : List Token) (found : Result Draft Fault) → approximate_letters_rule zone today.shown.clock d run more ≡ found
+  letters-then : (n : ℕ) → AreDrafted n → (d last : Draft) (run : List ℕ) (more : List Token) (found : Result Draft Fault)
+      → approximate_letters_rule zone today.shown.clock d run more ≡ found
       → length more ≤ n → go n (and_then found (λ next. Ok (next, more))) ≡ Ok last → Comes d (Letters run ∷ more) last
   letters-then n all d last run more (Ok next) is short e =
       later-on d next last (Letters run ∷ more) more (unused_letters d run more) (letters-leave zone today.shown.clock d next run more is)
       (λ later walk. AtLetters d next (settle last) run more later is walk) (all next last more short e)
   letters-then n all d last run more (Err wrong) is short e = absurd cc
 
-  digits-then : (n : ℕ) → AreDrafted n → (d last : Draft) (run : List ℕ) (more : List Token) (found : Read) → approximate_digits_rule today.now d run more ≡ found
+  digits-then : (n : ℕ) → AreDrafted n → (d last : Draft) (run : List ℕ) (more : List Token) (found : Read)
+      → approximate_digits_rule today.now d run more ≡ found
       → IsShort (length more) found → length more ≤ n → go n (ended found) ≡ Ok last → Comes d (Digits run ∷ more) last
   digits-then n all d last run more (Ok (next, rest)) is less short e =
       let fewer = ending-left (λ ts. length ts ≤ n) (λ left. Unit {0}) (short-kept n) rest (omega arith) in
-      later-on d next last (Digits run ∷ more) (after_ending rest) (unused_digits today.now d run more) (digits-leave today.now d next run more rest is)
-      (λ later walk. AtDigits d next (settle last) run more rest later is walk) (subst (λ (ts : List Token). Comes next ts last) (ending-is rest) (all next last (without_ending rest) fewer e))
+      later-on d next last (Digits run ∷ more) (after_ending rest) (unused_digits today.now d run more)
+      (digits-leave today.now d next run more rest is)
+      (λ later walk. AtDigits d next (settle last) run more rest later is walk)
+      (subst (λ (ts : List Token). Comes next ts last) (ending-is rest) (all next last (without_ending rest) fewer e))
   digits-then n all d last run more (Err wrong) is less short e = absurd cc
 
   steps-drafted : (n : ℕ) → AreDrafted n
@@ -173,9 +196,11 @@ module _ (zone : States) (today : Today) where
   steps-drafted (suc n) d last (Mark byte ∷ more) short e =
       let later = steps-drafted n d last more (omega arith) e in (later.0, AtMark d (settle last) byte more later.0 later.1, later.2)
   steps-drafted (suc n) d last (Letters run ∷ more) short e =
-      letters-then n (λ d last ts short e. steps-drafted n d last ts short e) d last run more (approximate_letters_rule zone today.shown.clock d run more) refl (omega arith) e
+      letters-then n (λ d last ts short e. steps-drafted n d last ts short e) d last run more
+      (approximate_letters_rule zone today.shown.clock d run more) refl (omega arith) e
   steps-drafted (suc n) d last (Digits run ∷ more) short e =
-      digits-then n (λ d last ts short e. steps-drafted n d last ts short e) d last run more (approximate_digits_rule today.now d run more) refl
+      digits-then n (λ d last ts short e. steps-drafted n d last ts short e) d last run more (approximate_digits_rule today.now d run more)
+      refl
       (read-short today.now d run more) (omega arith) e
 
   text-drafted : (text : List ℕ) (last : Draft) → draft_of zone today text ≡ Ok last → Comes (first_draft today.shown) (tokens text) last
@@ -203,7 +228,8 @@ ignores_earliest moment text date unreadable h = by-shown (shown_in zone now.sec
     parts : IsUpTo (nul_place text) (string_guess zone now string) date
     parts = answer-parts zone now text date (sym (h ∙ guessed moment text unreadable))
 
-    by-draft : (shown : ZoneClock) (given : Result Draft Fault) → shown_in zone now.seconds ≡ Some shown → draft_of zone (record { now = now; shown = shown }) string ≡ given
+    by-draft : (shown : ZoneClock) (given : Result Draft Fault) → shown_in zone now.seconds ≡ Some shown
+        → draft_of zone (record { now = now; shown = shown }) string ≡ given
         → answer_of zone (record { now = now; shown = shown }) string given ≡ Ok parts.before → IsEarliestUnused moment text date
     by-draft shown (Err wrong) seen is e = absurd cc
     by-draft shown (Ok d) seen is e =
@@ -216,9 +242,11 @@ ignores_earliest moment text date unreadable h = by-shown (shown_in zone now.sec
           is_shown = seen;
           walk = walk.1;
           time = found.0 ∙ ap (λ (x : Approximate). Some x.time) (sym parts.is);
-          first = ap (λ (x : Approximate). x.ignored) parts.is ∙ ap (λ (i : Option ℕ). option_or i (nul_place text)) (found.1 ∙ ap (option_map (place_in string)) walk.2);
+          first = ap (λ (x : Approximate). x.ignored) parts.is
+              ∙ ap (λ (i : Option ℕ). option_or i (nul_place text)) (found.1 ∙ ap (option_map (place_in string)) walk.2);
         }
 
-    by-shown : (shown : Option ZoneClock) → shown_in zone now.seconds ≡ shown → guess_by zone now string shown ≡ Ok parts.before → IsEarliestUnused moment text date
+    by-shown : (shown : Option ZoneClock) → shown_in zone now.seconds ≡ shown → guess_by zone now string shown ≡ Ok parts.before
+        → IsEarliestUnused moment text date
     by-shown None seen e = absurd cc
     by-shown (Some shown) seen e = by-draft shown (draft_of zone (record { now = now; shown = shown }) string) seen refl e

@@ -1,5 +1,6 @@
 -- What formats show: themselves, and times as Git stores them.
-use Rattle.std.proofs.Common.{◌≡◌, ◌∙◌, ◌<◌, ℕ, Bool, true, false, cond, List, [], ◌∷◌, ◌++◌, length, refl, ap, sym, arith, append-nil, ℤ, Option, Some, None, Ok, codes}
+use Rattle.std.proofs.Common.{◌≡◌, ◌∙◌, ◌<◌, ℕ, Bool, true, false, cond, List, [], ◌∷◌, ◌++◌, length, refl, ap, sym, arith, append-nil, ℤ}
+use Rattle.std.proofs.Common.{Option, Some, None, Ok, codes}
 use Rattle.std.proofs.Math.Seq.{drop-length, take-length}
 use Rattle.std.specs.List.{list_any}
 use Rattle.std.specs.Prelude.{◌&&◌, ◌||◌, option_map}
@@ -36,7 +37,8 @@ one-piece : (format : List ℕ) → 0 < length format → list_any is_percent fo
 one-piece format h plain =
     let all = all-text format plain in
     let next : Ok (Text format, []) ≡ next_piece format =
-    next_text format format [] (length format) h (sym all) (λ e. absurd (omega arith)) (sym (take-length format)) (sym (drop-length format)) in
+    next_text format format [] (length format) h (sym all) (λ e. absurd (omega arith)) (sym (take-length format))
+    (sym (drop-length format)) in
     let start : Left format format (λ done. done ≡ []) = left-all format (λ done. done ≡ []) refl in
     let left : Left format [] (IsWhole format) =
     left-next format format [] (λ done. done ≡ []) (IsWhole format) (Text format) start h next h
@@ -52,7 +54,8 @@ and-false true = refl
 and-false false = refl
 
 -- pieces that ask for no seconds are shown
-by-found : (ps : List Piece) (text : List ℕ) (found : Option Shown) → asks_seconds ps ≡ false → ((shown : Shown) → pieces_text shown ps ≡ text)
+by-found : (ps : List Piece) (text : List ℕ) (found : Option Shown) → asks_seconds ps ≡ false
+    → ((shown : Shown) → pieces_text shown ps ≡ text)
     → (found >>= shown_pieces ps) ≡ option_map (λ shown. text) found
 by-found ps text None h is = refl
 by-found ps text (Some shown) h is = grind (arith, and-false)
@@ -80,11 +83,13 @@ own-offset : (t : Time) (clock : LocalTime) → own_clock t ≡ Some clock → c
 unfolding own_clock
 own-offset t clock e = offset-by (has_own_clock t) t clock e
 
-seconds-shown : (zone : TimeZone) (t : Time) (k : IsOfKnownYear t) → shown_by_format zone false (codes "%s") t ≡ Some (decimal_text t.seconds)
+seconds-shown : (zone : TimeZone) (t : Time) (k : IsOfKnownYear t)
+    → shown_by_format zone false (codes "%s") t ≡ Some (decimal_text t.seconds)
 unfolding shown_by_format own_shown pieces pieces_in next_piece made_at number
 seconds-shown zone t k = grind (arith, append-nil)
 
-raw-shown : (zone : TimeZone) (t : Time) (k : IsOfKnownYear t) → shown_by_format zone false (codes "%s %z") t ≡ Some (raw_text t.seconds t.offset)
+raw-shown : (zone : TimeZone) (t : Time) (k : IsOfKnownYear t)
+    → shown_by_format zone false (codes "%s %z") t ≡ Some (raw_text t.seconds t.offset)
 unfolding shown_by_format own_shown pieces pieces_in next_piece made_at number
 raw-shown zone t k = grind (arith, append-nil, own-offset)
 

@@ -1,12 +1,14 @@
 -- What a format says, byte by byte of its text and directive by directive.
-use Rattle.std.proofs.Common.{◌≡◌, ◌∙◌, ◌+◌, ◌<◌, ◌≤◌, ℕ, zero, suc, Bool, true, false, List, [], ◌∷◌, ◌++◌, length, take, drop, refl, ap, subst, arith, append_assoc, Option, Some, None, Result, Ok, Err}
+use Rattle.std.proofs.Common.{◌≡◌, ◌∙◌, ◌+◌, ◌<◌, ◌≤◌, ℕ, zero, suc, Bool, true, false, List, [], ◌∷◌, ◌++◌, length, take, drop, refl, ap}
+use Rattle.std.proofs.Common.{subst, arith, append_assoc, Option, Some, None, Result, Ok, Err}
 use Rattle.std.proofs.lemmas.List.{length-drop}
 use Rattle.std.specs.Prelude.{◌||◌, if◌then◌else◌}
 use Rattle.std.specs.Result.{result_err}
 use Rattle.git_date.specs.declared.format.error.FormatFault.{FormatFault}
 use Rattle.git_date.specs.declared.format.error.FormatFault.TheVariants.{FlagRefused, UnknownDirective, WidthTooLarge}
 use Rattle.git_date.specs.Formats.Format.{asks_seconds, is_seconds, piece_text, pieces_text}
-use Rattle.git_date.specs.Formats.Pieces.{Made, Piece, Text, Begun, begun, is_percent, text_len, letter_place, made_at, made_by, made_if, next_piece, pieces, pieces_in, piece_before, then_pieces}
+use Rattle.git_date.specs.Formats.Pieces.{Made, Piece, Text, Begun, begun, is_percent, text_len, letter_place, made_at, made_by, made_if}
+use Rattle.git_date.specs.Formats.Pieces.{next_piece, pieces, pieces_in, piece_before, then_pieces}
 use Rattle.git_date.specs.Formats.Shown.{Shown}
 
 abbrev pub Pieces : Type 0
@@ -79,7 +81,8 @@ abbrev Goes : ℕ → Next → Type 0
 Goes left (Ok found) = length found.1 < left
 Goes left (Err e) = left_of e ≤ left
 
-begun-goes : (rest : List ℕ) (r : Result Made FormatFault) → SameBut (length rest + 1) (length rest + 1) r r → Goes (length rest + 1) (begun rest r)
+begun-goes : (rest : List ℕ) (r : Result Made FormatFault) → SameBut (length rest + 1) (length rest + 1) r r
+    → Goes (length rest + 1) (begun rest r)
 begun-goes rest (Ok m) h = omega (arith, length-drop (letter_place rest + 1) rest)
 begun-goes rest (Err e) h = omega (arith, h)
 
@@ -95,7 +98,8 @@ goes c rest = piece-goes c rest (is_percent c) refl
 abbrev More : ℕ → ℕ → Type 0
 More n m = (text : List ℕ) → length text ≤ n → length text ≤ m → pieces_in n text ≡ pieces_in m text
 
-then-enough : (n m left : ℕ) (r : Next) → Goes left r → left ≤ n + 1 → left ≤ m + 1 → More n m → then_pieces (pieces_in n) r ≡ then_pieces (pieces_in m) r
+then-enough : (n m left : ℕ) (r : Next) → Goes left r → left ≤ n + 1 → left ≤ m + 1 → More n m
+    → then_pieces (pieces_in n) r ≡ then_pieces (pieces_in m) r
 then-enough n m left (Ok found) h k l more = ap (piece_before found.0) (more found.1 (omega (arith, h)) (omega (arith, h)))
 then-enough n m left (Err e) h k l more = refl
 
@@ -108,7 +112,8 @@ enough zero (suc m) (c ∷ rest) h k = absurd (omega arith)
 enough (suc n) zero [] h k = refl
 enough (suc n) zero (c ∷ rest) h k = absurd (omega arith)
 enough (suc n) (suc m) [] h k = refl
-enough (suc n) (suc m) (c ∷ rest) h k = then-enough n m (length rest + 1) (next_piece (c ∷ rest)) (goes c rest) (omega arith) (omega arith) (enough n m)
+enough (suc n) (suc m) (c ∷ rest) h k =
+    then-enough n m (length rest + 1) (next_piece (c ∷ rest)) (goes c rest) (omega arith) (omega arith) (enough n m)
 
 within-by : (n left : ℕ) (r : Next) (e : FormatFault) → Goes left r → then_pieces (pieces_in n) r ≡ Err e
     → ((text : List ℕ) → pieces_in n text ≡ Err e → left_of e ≤ length text) → left_of e ≤ left
@@ -141,19 +146,23 @@ unfolding pieces pieces_in
 first-step c rest = enough (length (c ∷ rest)) (suc (length rest)) (c ∷ rest) (omega arith) (omega arith)
 
 -- a piece is said before what follows it
-step-said : (shown : Shown) (c : ℕ) (rest further : List ℕ) (piece : Piece) → next_piece (c ∷ rest) ≡ Ok (piece, further) → length further ≤ length rest
+step-said : (shown : Shown) (c : ℕ) (rest further : List ℕ) (piece : Piece) → next_piece (c ∷ rest) ≡ Ok (piece, further)
+    → length further ≤ length rest
     → format_said shown (c ∷ rest) ≡ before (is_seconds piece, piece_text shown piece) (format_said shown further)
 unfolding pieces
 step-said shown c rest further piece is fewer = grind (arith, first-step, said-before, enough)
 
-next-by : (c : ℕ) (rest : List ℕ) (r : Result Made FormatFault) → is_percent c ≡ true → made_at rest ≡ r → next_piece (c ∷ rest) ≡ begun rest r
+next-by : (c : ℕ) (rest : List ℕ) (r : Result Made FormatFault) → is_percent c ≡ true → made_at rest ≡ r
+    → next_piece (c ∷ rest) ≡ begun rest r
 unfolding next_piece
 next-by c rest r percent is = rw percent (ap (begun rest) is)
 
 pub directive-said : (shown : Shown) (c : ℕ) (rest : List ℕ) (m : Made) → is_percent c ≡ true → made_at rest ≡ Ok m
-    → format_said shown (c ∷ rest) ≡ before (is_seconds (Begun m), piece_text shown (Begun m)) (format_said shown (drop (letter_place rest + 1) rest))
+    → format_said shown (c ∷ rest)
+    ≡ before (is_seconds (Begun m), piece_text shown (Begun m)) (format_said shown (drop (letter_place rest + 1) rest))
 directive-said shown c rest m percent is =
-    step-said shown c rest (drop (letter_place rest + 1) rest) (Begun m) (next-by c rest (Ok m) percent is) (omega (arith, length-drop (letter_place rest + 1) rest))
+    step-said shown c rest (drop (letter_place rest + 1) rest) (Begun m) (next-by c rest (Ok m) percent is)
+    (omega (arith, length-drop (letter_place rest + 1) rest))
 
 -- no text is said after a fault
 pub fault-said : (shown : Shown) (c : ℕ) (rest : List ℕ) (e : FormatFault) → is_percent c ≡ true → made_at rest ≡ Err e
@@ -163,14 +172,16 @@ fault-said shown c rest e percent is = grind (arith, first-step, next-by)
 text-more : (c : ℕ) (rest : List ℕ) → is_percent c ≡ false → text_len (c ∷ rest) ≡ suc (text_len rest)
 text-more c rest plain = rw plain (omega arith)
 
-text-next : (c : ℕ) (rest : List ℕ) → is_percent c ≡ false → next_piece (c ∷ rest) ≡ Ok (Text (c ∷ take (text_len rest) rest), drop (text_len rest) rest)
+text-next : (c : ℕ) (rest : List ℕ) → is_percent c ≡ false
+    → next_piece (c ∷ rest) ≡ Ok (Text (c ∷ take (text_len rest) rest), drop (text_len rest) rest)
 unfolding next_piece
 text-next c rest plain = grind (arith, text-more)
 
 text-said : (shown : Shown) (c : ℕ) (rest : List ℕ) → is_percent c ≡ false
     → format_said shown (c ∷ rest) ≡ before (false, c ∷ take (text_len rest) rest) (format_said shown (drop (text_len rest) rest))
 text-said shown c rest plain =
-    step-said shown c rest (drop (text_len rest) rest) (Text (c ∷ take (text_len rest) rest)) (text-next c rest plain) (omega (arith, length-drop (text_len rest) rest))
+    step-said shown c rest (drop (text_len rest) rest) (Text (c ∷ take (text_len rest) rest)) (text-next c rest plain)
+    (omega (arith, length-drop (text_len rest) rest))
 
 abbrev cut_at : Shown → ℕ → List ℕ → ℕ → Said
 cut_at shown c rest n = before (false, c ∷ take n rest) (format_said shown (drop n rest))

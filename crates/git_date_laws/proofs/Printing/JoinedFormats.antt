@@ -1,7 +1,8 @@
 -- Formats that are joined: what the first and the second say is what both say.
 use Rattle.std.proofs.Common.{rules, pos}
 use Rattle.gix_date.specs.Printing.LocalClocks.{clock_of}
-use Rattle.std.proofs.Common.{◌≡◌, ◌∙◌, ◌+◌, ◌-◌, ◌<◌, ◌≤◌, ℕ, zero, suc, Bool, true, false, cond, List, [], ◌∷◌, ◌++◌, length, length-append, take, drop, refl, ap, sym, subst, arith, Option, Some, None, Result, Ok, Err}
+use Rattle.std.proofs.Common.{◌≡◌, ◌∙◌, ◌+◌, ◌-◌, ◌<◌, ◌≤◌, ℕ, zero, suc, Bool, true, false, cond, List, [], ◌∷◌, ◌++◌, length}
+use Rattle.std.proofs.Common.{length-append, take, drop, refl, ap, sym, subst, arith, Option, Some, None, Result, Ok, Err}
 use Rattle.std.proofs.lemmas.Bool.{false≢true}
 use Rattle.std.proofs.lemmas.Bool.Decides.{nat_tests}
 use Rattle.std.proofs.lemmas.List.{length-drop, take-append-le, drop-append-le}
@@ -15,11 +16,13 @@ use Rattle.gix_date.specs.declared.time.Time.{Time}
 use Rattle.git_date.specs.declared.format.error.FormatFault.{FormatFault}
 use Rattle.git_date.specs.declared.format.error.FormatFault.TheVariants.{FlagRefused, UnknownDirective, WidthTooLarge}
 use Rattle.git_date.specs.Formats.Format.{is_seconds, piece_text, shown_by_format, shown_pieces}
-use Rattle.git_date.specs.Formats.Pieces.{Made, Begun, is_percent, marks_len, digits_len, after_marks, after_digits, letter_place, made_at, made_if, pieces, pieces_in, pieces_or_none, is_format, placed, checked, checked_by}
+use Rattle.git_date.specs.Formats.Pieces.{Made, Begun, is_percent, marks_len, digits_len, after_marks, after_digits, letter_place, made_at}
+use Rattle.git_date.specs.Formats.Pieces.{made_if, pieces, pieces_in, pieces_or_none, is_format, placed, checked, checked_by}
 use Rattle.git_date.specs.Formats.Shown.{Shown, own_shown_by, shown_at}
 use Rattle.git_date.proofs.Formats.Pieces.{made-letter}
 use Rattle.git_date_laws.specs.Formats.{ChecksJoined, ShowsJoined, joined, moved}
-use Rattle.git_date_laws.proofs.Printing.FormatSteps.{Pieces, Said, said, sense, before, before-before, left_of, SameBut, made-left, fault-in, format_said, directive-said, fault-said, byte-said}
+use Rattle.git_date_laws.proofs.Printing.FormatSteps.{Pieces, Said, said, sense, before, before-before, left_of, SameBut, made-left}
+use Rattle.git_date_laws.proofs.Printing.FormatSteps.{fault-in, format_said, directive-said, fault-said, byte-said}
 
 -- a front that ends within a text is that of the text and more
 front-within : (p : ℕ → Bool) (xs ys : List ℕ) → prefix_len p xs < length xs → prefix_len p (xs ++ ys) ≡ prefix_len p xs
@@ -50,8 +53,10 @@ made-more rest second m e =
     let d = digits_len rest in
     let few = length-drop k rest in
     let marks = ap (λ (n : ℕ). take n (rest ++ second)) w.marks ∙ take-append-le k rest second (omega (arith, ends)) in
-    let digits = ap (λ (n : ℕ). take n (after_marks (rest ++ second))) w.digits ∙ ap (take d) w.after ∙ take-append-le d (after_marks rest) second (omega (arith, ends, few)) in
-    let letter = ap (λ (xs : List ℕ). slice_get xs 0) w.letter ∙ first-within (after_digits rest) second (omega (arith, ends, few, length-drop d (after_marks rest))) in
+    let digits = ap (λ (n : ℕ). take n (after_marks (rest ++ second))) w.digits ∙ ap (take d) w.after
+    ∙ take-append-le d (after_marks rest) second (omega (arith, ends, few)) in
+    let letter = ap (λ (xs : List ℕ). slice_get xs 0) w.letter
+    ∙ first-within (after_digits rest) second (omega (arith, ends, few, length-drop d (after_marks rest))) in
     let same = made-left left other (take k rest) (take d (after_marks rest)) (slice_get (after_digits rest) 0) in
     let alone = made_if other (take k rest) (take d (after_marks rest)) (slice_get (after_digits rest) 0) in
     (λ i. made_if other (marks i) (digits i) (letter i)) ∙ subst (λ (r : Result Made FormatFault). SameBut left other r alone) e same
@@ -63,7 +68,8 @@ further-more rest second m e = grind (arith, made-letter, within, drop-append-le
 -- what both say after a piece
 abbrev Says : Shown → ℕ → List ℕ → Type 0
 Says shown n second =
-    (first : List ℕ) (s : Bool × List ℕ) → length first ≤ n → format_said shown first ≡ Ok s → format_said shown (first ++ second) ≡ before s (format_said shown second)
+    (first : List ℕ) (s : Bool × List ℕ) → length first ≤ n → format_said shown first ≡ Ok s
+    → format_said shown (first ++ second) ≡ before s (format_said shown second)
 
 nothing-before : (r : Said) → r ≡ before (false, []) r
 nothing-before (Ok y) = refl
@@ -78,7 +84,8 @@ after-piece x s (Err fault) whole r e next = absurd cc
 
 module _ (shown : Shown) (n : ℕ) (c : ℕ) (rest second : List ℕ) (s : Bool × List ℕ) (fits : length rest ≤ n)
     (e : format_said shown (c ∷ rest) ≡ Ok s) (shorter : Says shown n second) where
-  by-directive : is_percent c ≡ true → (r : Result Made FormatFault) → made_at rest ≡ r → format_said shown (c ∷ (rest ++ second)) ≡ before s (format_said shown second)
+  by-directive : is_percent c ≡ true → (r : Result Made FormatFault) → made_at rest ≡ r
+      → format_said shown (c ∷ (rest ++ second)) ≡ before s (format_said shown second)
   by-directive percent (Err fault) is = absurd (let none = fault-said shown c rest fault percent is in cc)
   by-directive percent (Ok m) is =
       let further = drop (letter_place rest + 1) rest in
@@ -109,7 +116,8 @@ pub both-said : (shown : Shown) (first second : List ℕ) (s : Bool × List ℕ)
 both-said shown first second s e = says shown (length first) second first s (omega arith) e
 
 -- a fault in the second stands so much later in both
-place-moves : (first second : List ℕ) (left : ℕ) → left ≤ length second → length (first ++ second) - left ≡ length first + (length second - left)
+place-moves : (first second : List ℕ) (left : ℕ) → left ≤ length second
+    → length (first ++ second) - left ≡ length first + (length second - left)
 place-moves first second left h = omega (arith, h, length-append first second)
 
 fault-moves : (first second : List ℕ) (e : FormatFault) → left_of e ≤ length second
@@ -134,7 +142,8 @@ whole-said shown text h = by (pieces text) refl
     by (Ok ps) is = (sense shown ps, ap (said shown) is)
     by (Err e) is = absurd (false≢true (sym (ap is_ok is) ∙ h))
 
-same-fault : (shown : Shown) (first second : List ℕ) → is_format first ≡ true → result_err (pieces (first ++ second)) ≡ result_err (pieces second)
+same-fault : (shown : Shown) (first second : List ℕ) → is_format first ≡ true
+    → result_err (pieces (first ++ second)) ≡ result_err (pieces second)
 same-fault shown first second whole =
     let s = whole-said shown first whole in
     sym (fault-kept shown (pieces (first ++ second))) ∙ ap (λ (r : Said). result_err r) (both-said shown first second s.0 s.1)
@@ -159,13 +168,15 @@ checks_joined first second =
 abbrev shown_said : Bool → Bool × List ℕ → Option (List ℕ)
 shown_said none s = cond (none && s.0) None (Some s.1)
 
-both-shown : (none asks also : Bool) (xs ys : List ℕ) → shown_said none (asks || also, xs ++ ys) ≡ joined (shown_said none (asks, xs)) (shown_said none (also, ys))
+both-shown : (none asks also : Bool) (xs ys : List ℕ)
+    → shown_said none (asks || also, xs ++ ys) ≡ joined (shown_said none (asks, xs)) (shown_said none (also, ys))
 both-shown false asks also xs ys = refl
 both-shown true true also xs ys = refl
 both-shown true false true xs ys = refl
 both-shown true false false xs ys = refl
 
-said-shown : (shown : Shown) (r : Pieces) (s : Bool × List ℕ) → said shown r ≡ Ok s → shown_pieces (result_unwrap_or r []) shown ≡ shown_said (is_none shown.seconds) s
+said-shown : (shown : Shown) (r : Pieces) (s : Bool × List ℕ) → said shown r ≡ Ok s
+    → shown_pieces (result_unwrap_or r []) shown ≡ shown_said (is_none shown.seconds) s
 said-shown shown (Ok ps) s e = grind (arith, sense)
 said-shown shown (Err fault) s e = absurd cc
 

@@ -1,6 +1,7 @@
 -- The time that a printed clock says is the time that was printed.
 use Rattle.std.proofs.lemmas.Grind.{common_steps}
-use Rattle.std.proofs.Common.{◌≡◌, ◌∙◌, ◌≤◌, ◌≤ℤ◌, ◌<ℤ◌, ◌+◌, ◌*◌, ◌%◌, ℕ, ℤ, pos, negsuc, neg_ℤ, ◌+ℤ◌, ◌*ℤ◌, unsigned_abs, Bool, true, false, cond, List, refl, ap, sym, subst, arith, Some, None, Ok, Err, [], ◌∷◌, ◌++◌, append_assoc}
+use Rattle.std.proofs.Common.{◌≡◌, ◌∙◌, ◌≤◌, ◌≤ℤ◌, ◌<ℤ◌, ◌+◌, ◌*◌, ◌%◌, ℕ, ℤ, pos, negsuc, neg_ℤ, ◌+ℤ◌, ◌*ℤ◌, unsigned_abs, Bool, true}
+use Rattle.std.proofs.Common.{false, cond, List, refl, ap, sym, subst, arith, Some, None, Ok, Err, [], ◌∷◌, ◌++◌, append_assoc}
 use Rattle.std.specs.Prelude.{◌&&◌, int_lt}
 use Rattle.std.specs.Int.Signed.{le_z}
 use Rattle.std.proofs.lemmas.Bool.Decides.{nat_tests}
@@ -36,18 +37,21 @@ use Rattle.git_date.specs.Types.Names.{Now}
 use Rattle.git_date.specs.declared.error.DateError.TheVariants as error
 use Rattle.git_date.specs.Types.Names.{Said}
 use Rattle.git_date.proofs.Rules.ClocksBack.{before-year, later-day}
-use Rattle.git_date.proofs.Exact.PrintedClocks.{IsGitClock, at, fields_of, hours_of, minutes_of, is_behind, signed, offset_in_minutes, IsDayText, date-mark}
+use Rattle.git_date.proofs.Exact.PrintedClocks.{IsGitClock, at, fields_of, hours_of, minutes_of, is_behind, signed, offset_in_minutes}
+use Rattle.git_date.proofs.Exact.PrintedClocks.{IsDayText, date-mark}
 use Rattle.git_date.proofs.Exact.PrintedReads.{minutes-back, iso-reads, strict-reads, mail-reads, default-reads, bare-day-of}
 
 -- a mail's date, with its comma behind the name
 abbrev after_comma : LocalTime → List ℕ → List ℕ
 after_comma l day =
-    day ++ (space ∷ (month_name l.date.month ++ (space ∷ (four_digits l.date.year ++ (space ∷ (clock_text l.clock ++ (space ∷ compact_offset_text l.offset)))))))
+    day ++ (space ∷ (month_name l.date.month
+    ++ (space ∷ (four_digits l.date.year ++ (space ∷ (clock_text l.clock ++ (space ∷ compact_offset_text l.offset)))))))
 
 abbrev named_mail : List ℕ → LocalTime → List ℕ
 named_mail day l = (day_name l.weekday ++ (comma ∷ (space ∷ []))) ++ after_comma l day
 
-mail-back : (now : Now) (day : List ℕ) (l : LocalTime) → IsGitClock l → IsDayText l.date.day day → said_by now (named_mail day l) ≡ fields_said (named_mail day l) (Ok (at (fields_of l)))
+mail-back : (now : Now) (day : List ℕ) (l : LocalTime) → IsGitClock l → IsDayText l.date.day day
+    → said_by now (named_mail day l) ≡ fields_said (named_mail day l) (Ok (at (fields_of l)))
 mail-back now day l h is = grind (arith, fields_of, append_assoc, mail-reads)
 
 -- the seconds that such a clock has counted
@@ -55,7 +59,8 @@ abbrev clock_of_utc : LocalTime → ℤ
 clock_of_utc t = civil_seconds t.date t.clock (pos 0)
 
 abbrev said_of : LocalTime → Said
-said_of t = record { seconds = clock_of_utc t; offset = Some (offset_in_minutes t); epoch = false; leap = is_leap (fields_of t); ignored = None }
+said_of t =
+    record { seconds = clock_of_utc t; offset = Some (offset_in_minutes t); epoch = false; leap = is_leap (fields_of t); ignored = None }
 
 month-known : (t : LocalTime) → IsGitClock t → is_month t.date.year t.date.month ≡ true
 month-known t h = let a = h.first_year in let b = h.last_year in let c = h.first_month in let d = h.last_month in grind (arith, nat_tests)
@@ -64,7 +69,8 @@ exact : (t : LocalTime) → IsGitClock t → exact_seconds (fields_of t) ≡ Som
 unfolding exact_seconds month_start
 exact t h = grind (arith, nat_tests, common_steps, month-known, later-day, signed_arith)
 
-fields-are : (text : List ℕ) (t : LocalTime) → IsGitClock t → is_instant (clock_of_utc t) ≡ true → fields_said text (Ok (at (fields_of t))) ≡ Ok (said_of t)
+fields-are : (text : List ℕ) (t : LocalTime) → IsGitClock t → is_instant (clock_of_utc t) ≡ true
+    → fields_said text (Ok (at (fields_of t))) ≡ Ok (said_of t)
 unfolding fields_said
 fields-are text t h instant = grind (arith, fields_of, exact)
 
@@ -98,7 +104,8 @@ module _ (t : Time) (h : IsGitTime t) (z : PlainZoned) (shows : Shows z t) where
   last = subst (λ (l : LocalTime). l.date.year ≤ 2099) (sym shown) h.last
 
   back : pos 60 *ℤ offset_in_minutes (local_time z) ≡ t.offset
-  back = subst (λ (o : ℤ). pos 60 *ℤ signed (int_lt o (pos 0)) (60 * hours_in (unsigned_abs o) + minutes_in (unsigned_abs o)) ≡ t.offset) (sym shows.offset_is) (minutes-back t.offset h.round_trips.four_digits.minutes)
+  back = subst (λ (o : ℤ). pos 60 *ℤ signed (int_lt o (pos 0)) (60 * hours_in (unsigned_abs o) + minutes_in (unsigned_abs o)) ≡ t.offset)
+      (sym shows.offset_is) (minutes-back t.offset h.round_trips.four_digits.minutes)
 
   within : unsigned_abs z.offset.seconds ≤ 86_340
   within = subst (λ (o : ℤ). unsigned_abs o ≤ 86_340) (sym shows.offset_is) h.round_trips.within
@@ -119,7 +126,8 @@ module _ (t : Time) (h : IsGitTime t) (z : PlainZoned) (shows : Shows z t) where
         second = omega (arith, z.datetime.time.second_in);
         hours = omega (arith, within);
         minutes = omega arith;
-        known = λ behind one. h.known (one-behind t.offset (is_behind (local_time z)) (60 * hours_of (local_time z) + minutes_of (local_time z)) back behind one);
+        known = λ behind one. h.known
+            (one-behind t.offset (is_behind (local_time z)) (60 * hours_of (local_time z) + minutes_of (local_time z)) back behind one);
       }
 
   civil : civil_seconds (local_time z).date (local_time z).clock t.offset ≡ t.seconds
@@ -141,22 +149,30 @@ module _ (t : Time) (h : IsGitTime t) (z : PlainZoned) (shows : Shows z t) where
       let since = h.since_1970 in
       let near = h.round_trips.within in
       let is = counted in
-      instant_from (clock_of_utc (local_time z)) (omega (arith, signed_arith, day, local, since, near, is), omega (arith, signed_arith, day, local, since, near, is))
+      instant_from (clock_of_utc (local_time z))
+      (omega (arith, signed_arith, day, local, since, near, is), omega (arith, signed_arith, day, local, since, near, is))
 
   seconds_back : instant_seconds (said_of (local_time z)) (offset_in_minutes (local_time z)) ≡ t.seconds
   seconds_back = let is = counted in let minutes = back in omega (arith, signed_arith, is, minutes)
 
-  time-back : date_at (said_of (local_time z)) (offset_in_minutes (local_time z)) ≡ Ok (record { time = t; has_offset = true; ignored = None })
+  time-back : date_at (said_of (local_time z)) (offset_in_minutes (local_time z))
+      ≡ Ok (record { time = t; has_offset = true; ignored = None })
   unfolding date_at
   time-back =
-      ap (λ (s : ℤ). cond (le_z (pos 0) s) (Ok (record { time = record { seconds = s; offset = pos 60 *ℤ offset_in_minutes (local_time z) }; has_offset = true; ignored = None })) (Err error.Range)) seconds_back
-      ∙ ap (λ (o : ℤ). cond (le_z (pos 0) t.seconds) (Ok (record { time = record { seconds = t.seconds; offset = o }; has_offset = true; ignored = None })) (Err error.Range)) back
-      ∙ ap (λ (b : Bool). cond b (Ok (record { time = t; has_offset = true; ignored = None })) (Err error.Range)) (z_holds (pos 0) t.seconds h.since_1970)
+      ap (λ (s : ℤ). cond (le_z (pos 0) s) (Ok (record
+      { time = record { seconds = s; offset = pos 60 *ℤ offset_in_minutes (local_time z) }; has_offset = true; ignored = None })) (Err
+      error.Range)) seconds_back
+      ∙ ap (λ (o : ℤ). cond (le_z (pos 0) t.seconds)
+      (Ok (record { time = record { seconds = t.seconds; offset = o }; has_offset = true; ignored = None })) (Err error.Range)) back
+      ∙ ap (λ (b : Bool). cond b (Ok (record { time = t; has_offset = true; ignored = None })) (Err error.Range))
+      (z_holds (pos 0) t.seconds h.since_1970)
 
-  back-by : (now : Now) (text : LocalTime → List ℕ) → ((l : LocalTime) → IsGitClock l → said_by now (text l) ≡ fields_said (text l) (Ok (at (fields_of l)))) → IsReadBack now t text
+  back-by : (now : Now) (text : LocalTime → List ℕ)
+      → ((l : LocalTime) → IsGitClock l → said_by now (text l) ≡ fields_said (text l) (Ok (at (fields_of l)))) → IsReadBack now t text
   back-by now text reads tz =
       let said = reads (local_time z) is-clock ∙ fields-are (text (local_time z)) (local_time z) is-clock instant in
-      let read : said_by now (text (clock_of t)) ≡ Ok (said_of (local_time z)) = ap (λ (l : LocalTime). said_by now (text l)) (sym shown) ∙ said in
+      let read : said_by now (text (clock_of t)) ≡ Ok (said_of (local_time z)) = ap (λ (l : LocalTime). said_by now (text l)) (sym shown)
+      ∙ said in
       ap (date_of tz) read ∙ time-back
 
   all-back : (now : Now) → AreReadBack now t
@@ -179,6 +195,7 @@ known-clock : (t : Time) → IsGitTime t → with_known_offset (clock_of t) ≡ 
 unfolding clock_of
 known-clock t h = grind (arith, nat_tests, known-minutes)
 
-pub zone-is : (zone : TimeZone) (s : ℤ) (clock : LocalTime) → IsGitTime (time_at zone s) → zone_clock zone s ≡ Some clock → clock ≡ clock_of (time_at zone s)
+pub zone-is : (zone : TimeZone) (s : ℤ) (clock : LocalTime) → IsGitTime (time_at zone s) → zone_clock zone s ≡ Some clock
+    → clock ≡ clock_of (time_at zone s)
 unfolding zone_clock
 zone-is zone s clock h e = grind (arith, known-clock)

@@ -1,5 +1,6 @@
 -- What `raw` shows, after `@`.
-use Rattle.std.proofs.Common.{◌≡◌, ◌∙◌, ◌≤◌, ◌<◌, ◌+◌, ◌/◌, ◌%◌, ◌^◌, ℕ, ℤ, pos, negsuc, ◌*ℤ◌, Bool, true, false, List, [], ◌∷◌, ◌++◌, length, length-append, Option, Some, None, Result, Ok, refl, ap, arith}
+use Rattle.std.proofs.Common.{◌≡◌, ◌∙◌, ◌≤◌, ◌<◌, ◌+◌, ◌/◌, ◌%◌, ◌^◌, ℕ, ℤ, pos, negsuc, ◌*ℤ◌, Bool, true, false, List, [], ◌∷◌, ◌++◌}
+use Rattle.std.proofs.Common.{length, length-append, Option, Some, None, Result, Ok, refl, ap, arith}
 use Rattle.std.specs.Char.{is_ascii_digit}
 use Rattle.std.specs.Fmt.{decimal}
 use Rattle.std.specs.Int.Signed.{lt_z}
@@ -62,12 +63,15 @@ raw-are n a b behind h f g =
     let pairs = two_digits a ++ two_digits b in
     let last : tokens (space ∷ sign_byte behind ∷ pairs) ≡ Mark space ∷ Mark (sign_byte behind) ∷ Digits pairs ∷ [] =
     mark-first space (sign_byte behind ∷ pairs) refl refl
-    ∙ ap (λ (ts : List Token). Mark space ∷ ts) (sign-before behind pairs ∙ ap (λ (ts : List Token). Mark (sign_byte behind) ∷ ts) (number-before pairs [] [] _ (pairs-number a b f g) refl tt)) in
+    ∙ ap (λ (ts : List Token). Mark space ∷ ts) (sign-before behind pairs
+    ∙ ap (λ (ts : List Token). Mark (sign_byte behind) ∷ ts) (number-before pairs [] [] _ (pairs-number a b f g) refl tt)) in
     mark-first at_sign (decimal n ++ (space ∷ sign_byte behind ∷ pairs)) refl refl
-    ∙ ap (λ (ts : List Token). Mark at_sign ∷ ts) (number-before (decimal n) (space ∷ sign_byte behind ∷ pairs) _ n (decimal-number n h) last tt)
+    ∙ ap (λ (ts : List Token). Mark at_sign ∷ ts)
+    (number-before (decimal n) (space ∷ sign_byte behind ∷ pairs) _ n (decimal-number n h) last tt)
 
 raw-said : (now : Now) (n a b : ℕ) (behind : Bool) → n < 2 ^ 64 → a < 100 → b < 100 → is_instant (pos n) ≡ true
-    → said_by now (at_sign ∷ (decimal n ++ (space ∷ sign_byte behind ∷ (two_digits a ++ two_digits b)))) ≡ Ok (said_at n (minutes_of behind a b))
+    → said_by now (at_sign ∷ (decimal n ++ (space ∷ sign_byte behind ∷ (two_digits a ++ two_digits b))))
+    ≡ Ok (said_at n (minutes_of behind a b))
 unfolding string_said
 raw-said now n a b behind h f g e =
     let text = at_sign ∷ (decimal n ++ (space ∷ sign_byte behind ∷ (two_digits a ++ two_digits b))) in
@@ -75,10 +79,12 @@ raw-said now n a b behind h f g e =
     let free : has_nul (raw_tokens (decimal n) behind (two_digits a ++ two_digits b)) ≡ false = rw (sign-free behind) refl in
     let found : at_text (tokens text) ≡ Some (n, minutes_of behind a b) =
     ap at_text are ∙ at-is (decimal n) a b behind f g ∙ ap (λ (k : ℕ). Some (k, minutes_of behind a b)) (decimal-number n h).is in
-    whole-said now text (no-nul text (ap has_nul are ∙ free)) ∙ ap (λ (o : Option (ℕ × ℤ)). at_or_fields now text o) found ∙ said-is n (minutes_of behind a b) e
+    whole-said now text (no-nul text (ap has_nul are ∙ free)) ∙ ap (λ (o : Option (ℕ × ℤ)). at_or_fields now text o) found
+    ∙ said-is n (minutes_of behind a b) e
 
 pub date-is : (n : ℕ) (minutes offset : ℤ) → pos 60 *ℤ minutes ≡ offset
-    → date_at (said_at n minutes) minutes ≡ Ok (record { time = record { seconds = pos n; offset = offset }; has_offset = true; ignored = None })
+    → date_at (said_at n minutes) minutes
+    ≡ Ok (record { time = record { seconds = pos n; offset = offset }; has_offset = true; ignored = None })
 unfolding date_at
 date-is n minutes offset e = grind (arith, z_holds, signed_arith)
 
@@ -87,12 +93,16 @@ raw-parts : (now : Moment) (t : Time) (text : List ℕ) → shown now (own Raw) 
 unfolding shown shown_offset
 raw-parts now t text e = grind (arith, when-shown, mapped)
 
-by-seconds : (tz : TimeZone) (this : Now) (s o : ℤ) (result : Result ReadDate DateError) → lt_z s (pos 0) ≡ false → is_written_offset o ≡ true → is_instant s ≡ true
+by-seconds : (tz : TimeZone) (this : Now) (s o : ℤ) (result : Result ReadDate DateError) → lt_z s (pos 0) ≡ false
+    → is_written_offset o ≡ true → is_instant s ≡ true
     → result ≡ date_of tz (said_by this (at_sign ∷ written_text (record { seconds = s; offset = o })))
     → result ≡ Ok (record { time = record { seconds = s; offset = o }; has_offset = true; ignored = None })
 by-seconds tz this (negsuc n) o result past written instant h = absurd cc
-by-seconds tz this (pos n) o result past written instant h = grind (arith, instant_holds, and_parts, said_at, minutes_of, raw-said, signed_arith, date-is, minutes-back)
+by-seconds tz this (pos n) o result past written instant h =
+    grind (arith, instant_holds, and_parts, said_at, minutes_of, raw-said, signed_arith, date-is, minutes-back)
 
-pub raw_back : (tz : TimeZone) (this : Now) (now : Moment) (t : Time) (text : List ℕ) (result : Result ReadDate DateError) → is_instant t.seconds ≡ true
-    → shown now (own Raw) t ≡ Some text → result ≡ date_of tz (said_by this (at_sign ∷ text)) → result ≡ Ok (record { time = t; has_offset = true; ignored = None })
+pub raw_back : (tz : TimeZone) (this : Now) (now : Moment) (t : Time) (text : List ℕ) (result : Result ReadDate DateError)
+    → is_instant t.seconds ≡ true
+    → shown now (own Raw) t ≡ Some text → result ≡ date_of tz (said_by this (at_sign ∷ text))
+    → result ≡ Ok (record { time = t; has_offset = true; ignored = None })
 raw_back tz this now t text result instant e h = grind (arith, raw-parts, by-seconds)

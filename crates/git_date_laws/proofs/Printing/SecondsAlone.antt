@@ -1,5 +1,6 @@
 -- Seconds without `@`: alone, as `unix` shows them, and before an offset, as `raw` does.
-use Rattle.std.proofs.Common.{◌≡◌, ◌∙◌, ◌≤◌, ◌<◌, ◌+◌, ◌*◌, ◌%◌, ◌^◌, ℕ, ℤ, pos, negsuc, ◌*ℤ◌, unsigned_abs, Bool, true, false, List, [], ◌∷◌, append-nil, Option, Some, None, Ok, refl, sym, ap, subst, arith}
+use Rattle.std.proofs.Common.{◌≡◌, ◌∙◌, ◌≤◌, ◌<◌, ◌+◌, ◌*◌, ◌%◌, ◌^◌, ℕ, ℤ, pos, negsuc, ◌*ℤ◌, unsigned_abs, Bool, true, false, List, []}
+use Rattle.std.proofs.Common.{◌∷◌, append-nil, Option, Some, None, Ok, refl, sym, ap, subst, arith}
 use Rattle.std.specs.Fmt.{decimal}
 use Rattle.std.specs.Int.Signed.{lt_z}
 use Rattle.std.specs.Prelude.{option_map, int_lt}
@@ -44,17 +45,20 @@ unfolding without_ending at_text tokens
 alone-said now n first last =
     let is = decimal-number n (omega (arith, last)) in
     let fields = with_epoch unknown (shown_of (pos n)) in
-    reads-are now (decimal n) (Digits (decimal n) ∷ []) 40 fields (ap tokens (sym (append-nil (decimal n))) ∙ number-before (decimal n) [] [] n is refl tt) refl (omega arith) refl
+    reads-are now (decimal n) (Digits (decimal n) ∷ []) 40 fields
+    (ap tokens (sym (append-nil (decimal n))) ∙ number-before (decimal n) [] [] n is refl tt) refl (omega arith) refl
     (go now 39 unknown fields (Digits (decimal n)) [] [] refl (ap ended (epoch-by now n (decimal n) [] is.is first last))
     ∙ nothing-left (step now) 39 (at fields))
     ∙ epoch-says n None (decimal n) last
 
 -- the time of such seconds
-at-seconds : (said : Said) (minutes : ℤ) (date : ReadDate) → date_at said minutes ≡ Ok date → (date.time.seconds ≡ instant_seconds said minutes) × (date.ignored ≡ said.ignored)
+at-seconds : (said : Said) (minutes : ℤ) (date : ReadDate) → date_at said minutes ≡ Ok date
+    → (date.time.seconds ≡ instant_seconds said minutes) × (date.ignored ≡ said.ignored)
 unfolding date_at
 at-seconds said minutes date e = grind (arith)
 
-alone-in : (n : ℕ) (offset : Option ℤ) (date : ReadDate) → date_in (said_alone n) offset ≡ Ok date → (date.time.seconds ≡ pos n) × (date.ignored ≡ None)
+alone-in : (n : ℕ) (offset : Option ℤ) (date : ReadDate) → date_in (said_alone n) offset ≡ Ok date
+    → (date.time.seconds ≡ pos n) × (date.ignored ≡ None)
 alone-in n (Some offset) date e = at-seconds (said_alone n) _ date e
 alone-in n None date e = absurd cc
 
@@ -71,7 +75,8 @@ unix-alone this at local tz t text date h e read = grind (arith, when-shown, alo
 
 -- seconds before an offset
 raw-read : (this : Now) (tz : TimeZone) (s o : ℤ) → IsEpoch s → IsGitTime (record { seconds = s; offset = o })
-    → date_of tz (said_by this (raw_text s o)) ≡ Ok (record { time = record { seconds = s; offset = o }; has_offset = true; ignored = None })
+    → date_of tz (said_by this (raw_text s o))
+    ≡ Ok (record { time = record { seconds = s; offset = o }; has_offset = true; ignored = None })
 raw-read this tz (negsuc n) o epoch h = absurd (omega (arith, signed_arith, epoch))
 raw-read this tz (pos n) o epoch h =
     let minutes = signed (int_lt o (pos 0)) (60 * hours_in (unsigned_abs o) + minutes_in (unsigned_abs o)) in
@@ -92,12 +97,14 @@ raw-read this tz (pos n) o epoch h =
     ap (date_of tz) (raw-says (decimal n) (compact_offset_text o) n minutes seconds offset this) ∙ date-is n minutes o back
 
 -- the offset that is shown
-offset-is : (at : Moment) (local : Bool) (t : Time) (o : ℤ) → IsGitTime (shown_time at local t) → shown_offset at local t ≡ Some o → o ≡ (shown_time at local t).offset
+offset-is : (at : Moment) (local : Bool) (t : Time) (o : ℤ) → IsGitTime (shown_time at local t) → shown_offset at local t ≡ Some o
+    → o ≡ (shown_time at local t).offset
 unfolding shown_offset clock_of
 offset-is at false t o h e = grind (arith)
 offset-is at true t o h e = grind (arith, zone-is)
 
-pub raw-alone : (moment : Zoned) (at : Moment) (local : Bool) (t : Time) (text : List ℕ) → IsEpoch t.seconds → IsGitTime (shown_time at local t)
+pub raw-alone : (moment : Zoned) (at : Moment) (local : Bool) (t : Time) (text : List ℕ) → IsEpoch t.seconds
+    → IsGitTime (shown_time at local t)
     → shown at (record { kind = Raw; local = local }) t ≡ Some text → IsReadAs moment text (shown_time at local t)
 unfolding shown
 raw-alone moment at local t text epoch h e tz = by (shown_offset at local t) refl (when-shown (lt_z t.seconds (pos 0)) _ text e).1
@@ -113,5 +120,6 @@ raw-alone moment at local t text epoch h e tz = by (shown_offset at local t) ref
         let text-is : raw_text (shown_time at local t).seconds (shown_time at local t).offset ≡ text =
         (λ i. raw_text (seconds-are local i) (sym (offset-is at local t o h is) i)) ∙ same in
         ap (λ (shown : List ℕ). date_of tz (said_by (now_of moment) shown)) (sym text-is)
-        ∙ raw-read (now_of moment) tz (shown_time at local t).seconds (shown_time at local t).offset (subst IsEpoch (sym (seconds-are local)) epoch) h
+        ∙ raw-read (now_of moment) tz (shown_time at local t).seconds (shown_time at local t).offset
+        (subst IsEpoch (sym (seconds-are local)) epoch) h
     by None is e = absurd cc

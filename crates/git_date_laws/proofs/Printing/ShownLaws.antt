@@ -13,7 +13,8 @@ pub when-shown : (past : Bool) (x : Option (List ℕ)) (text : List ℕ) → con
 when-shown true x text e = (cc, cc)
 when-shown false x text e = (refl, e)
 
-pub mapped : {A : Type 0} (show : A → List ℕ) (b : Bool) (clock : A) (text : List ℕ) → option_map show (cond b (Some clock) None) ≡ Some text → (b ≡ true) × (show clock ≡ text)
+pub mapped : {A : Type 0} (show : A → List ℕ) (b : Bool) (clock : A) (text : List ℕ)
+    → option_map show (cond b (Some clock) None) ≡ Some text → (b ≡ true) × (show clock ≡ text)
 mapped show true clock text e = (refl, cc)
 mapped show false clock text e = (cc, cc)
 

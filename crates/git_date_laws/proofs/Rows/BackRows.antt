@@ -23,7 +23,8 @@ Mean rows =
 
 unit_rows :
     Mean
-    (("second", 1) ∷ ("seconds", 1) ∷ ("minute", 60) ∷ ("minutes", 60) ∷ ("hour", 3600) ∷ ("hours", 3600) ∷ ("day", 86_400) ∷ ("days", 86_400)
+    (("second", 1) ∷ ("seconds", 1) ∷ ("minute", 60) ∷ ("minutes", 60) ∷ ("hour", 3600) ∷ ("hours", 3600) ∷ ("day", 86_400) ∷
+    ("days", 86_400)
     ∷ ("week", 604_800) ∷ ("weeks", 604_800) ∷ ("Weeks", 604_800) ∷ ("HOUR", 3600) ∷ [])
 unfolding computing approximating
 unit_rows = refl
@@ -31,7 +32,8 @@ unit_rows = refl
 -- a text counts what its parts say
 counted : (text digits unit : List ℕ) (gap last count size : ℕ)
     → tokens (before_nul text) ≡ Digits digits ∷ Mark gap ∷ Letters unit ∷ Mark last ∷ Letters (codes "ago") ∷ []
-    → number digits ≡ count → 1 ≤ count → count < min_epoch → (length digits == 8) ≡ false → is_padded digits ≡ false → meaning_of unit ≡ Some (meaning.Unit (Seconds size))
+    → number digits ≡ count → 1 ≤ count → count < min_epoch → (length digits == 8) ≡ false → is_padded digits ≡ false
+    → meaning_of unit ≡ Some (meaning.Unit (Seconds size))
     → CountsBack text count size
 counted text digits unit gap last count size is number some few short bare means = grind (arith)
 
@@ -41,4 +43,5 @@ dotted = counted (codes "2.weeks.ago") (codes "2") (codes "weeks") 46 46 2 604_8
 
 spaced : CountsBack (codes "90000 Second ago") 90_000 1
 unfolding computing approximating
-spaced = counted (codes "90000 Second ago") (codes "90000") (codes "Second") 32 32 90_000 1 refl refl (omega arith) (omega arith) refl refl refl
+spaced =
+    counted (codes "90000 Second ago") (codes "90000") (codes "Second") 32 32 90_000 1 refl refl (omega arith) (omega arith) refl refl refl

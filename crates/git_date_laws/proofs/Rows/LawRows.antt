@@ -18,7 +18,8 @@ unfolding computing end_before_minutes are_white
 minutes_follow = refl
 
 -- the offset of `@` may follow
-offset_follows : map (λ text. awaits_offset (tokens (codes text))) ("@5 +" ∷ "@5 -  " ∷ "@5 " ∷ "5 +" ∷ "@5 +0" ∷ []) ≡ true ∷ true ∷ false ∷ false ∷ false ∷ []
+offset_follows : map (λ text. awaits_offset (tokens (codes text))) ("@5 +" ∷ "@5 -  " ∷ "@5 " ∷ "5 +" ∷ "@5 +0" ∷ [])
+    ≡ true ∷ true ∷ false ∷ false ∷ false ∷ []
 unfolding computing are_white
 offset_follows = refl
 

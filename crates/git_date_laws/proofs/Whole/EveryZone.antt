@@ -1,5 +1,6 @@
 -- In every zone now is now, and so many seconds ago are so many seconds.
-use Rattle.std.proofs.Common.{◌≡◌, ◌∙◌, ◌*◌, ℕ, ℤ, pos, ◌+ℤ◌, ◌-ℤ◌, ◌≤ℤ◌, Bool, true, false, cond, List, length, Option, Some, None, option_and_then, option_map, Result, Ok, Err, refl, sym, ap, subst, arith}
+use Rattle.std.proofs.Common.{◌≡◌, ◌∙◌, ◌*◌, ℕ, ℤ, pos, ◌+ℤ◌, ◌-ℤ◌, ◌≤ℤ◌, Bool, true, false, cond, List, length, Option, Some, None}
+use Rattle.std.proofs.Common.{option_and_then, option_map, Result, Ok, Err, refl, sym, ap, subst, arith}
 use Rattle.std.specs.Prelude.{codes}
 use Rattle.jiff.specs.Types.{TimeZone}
 use Rattle.jiff.specs.Words.{nanos_of_seconds, offset_at}
@@ -46,7 +47,14 @@ no-date this = refl
 
 no-count : (zone : States) (today : Today)
     → draft_of zone today (codes "0 seconds ago")
-    ≡ Ok (record { fields = clock_fields today.shown.clock; last = last_of (pos 0) today.shown; waiting = None; understood = true; ignored = Some 13 })
+    ≡ Ok (record {
+      fields = clock_fields today.shown.clock;
+      last = last_of (pos 0) today.shown;
+      waiting = None;
+      understood = true;
+      ignored =
+          Some 13;
+    })
 unfolding computing approximating
 no-count zone today = refl
 
@@ -66,27 +74,34 @@ module _ (tz : TimeZone) where
   found-own guess s e again =
       let same : clock s -ℤ (there s).offset ≡ s = omega (arith, signed_arith) in
       let here : states_of tz (clock s -ℤ (there s).offset) ≡ Some (there s) = ap (states_of tz) same ∙ says s e in
-      ap (λ (found : Option ZoneState). found_offset (states_of tz) (record { clock = clock s; daylight = option_map (λ (x : ZoneState). x.daylight) found }) guess) (sym here)
+      ap (λ (found : Option ZoneState).
+      found_offset (states_of tz) (record { clock = clock s; daylight = option_map (λ (x : ZoneState). x.daylight) found }) guess)
+      (sym here)
       ∙ again
 
   -- a clock is found at its own offset
-  found-there : (s : ℤ) → is_instant s ≡ true → is_instant (clock s) ≡ true → IsFoundAgain (states_of tz) (there s).offset (clock s) (there s).offset
+  found-there : (s : ℤ) → is_instant s ≡ true → is_instant (clock s) ≡ true
+      → IsFoundAgain (states_of tz) (there s).offset (clock s) (there s).offset
   found-there s e instant =
       let same : clock s -ℤ (there s).offset ≡ s = omega (arith, signed_arith) in
       let here : states_of tz (clock s -ℤ (there s).offset) ≡ Some (there s) = ap (states_of tz) same ∙ says s e in
-      ap (λ (found : Option ZoneState). found_offset (states_of tz) (record { clock = clock s; daylight = option_map (λ (x : ZoneState). x.daylight) found }) (there s).offset) here
+      ap (λ (found : Option ZoneState). found_offset (states_of tz)
+      (record { clock = clock s; daylight = option_map (λ (x : ZoneState). x.daylight) found }) (there s).offset) here
       ∙ found-at-guess (states_of tz) (record { clock = clock s; daylight = Some (there s).daylight }) (there s) (sym here) refl instant
 
-  found-at-own : (last : LastShown) (s : ℤ) → is_instant s ≡ true → last.daylight ≡ (there s).daylight → IsFoundAgain (states_of tz) last.guess (clock s) (there s).offset
+  found-at-own : (last : LastShown) (s : ℤ) → is_instant s ≡ true → last.daylight ≡ (there s).daylight
+      → IsFoundAgain (states_of tz) last.guess (clock s) (there s).offset
       → found_at (states_of tz) last false (clock s) ≡ Some (record { instant = s; guess = (there s).offset })
   unfolding found_at
   found-at-own last s e flag again =
       let same : clock s -ℤ (there s).offset ≡ s = omega (arith, signed_arith) in
-      ap (λ (flag : Bool). option_map (found_by (clock s)) (found_offset (states_of tz) (record { clock = clock s; daylight = Some flag }) last.guess)) flag
+      ap (λ (flag : Bool).
+      option_map (found_by (clock s)) (found_offset (states_of tz) (record { clock = clock s; daylight = Some flag }) last.guess)) flag
       ∙ ap (option_map (found_by (clock s))) (found-own last.guess s e again)
       ∙ ap (λ (n : ℤ). let found : Found = record { instant = n; guess = (there s).offset } in Some found) same
 
-  filled-own : (today : LocalTime) (last : LastShown) (f : Fields) (s : ℤ) → is_instant s ≡ true → is_leap f ≡ false → filled_seconds today f ≡ Some (clock s)
+  filled-own : (today : LocalTime) (last : LastShown) (f : Fields) (s : ℤ) → is_instant s ≡ true → is_leap f ≡ false
+      → filled_seconds today f ≡ Some (clock s)
       → last.daylight ≡ (there s).daylight → IsFoundAgain (states_of tz) last.guess (clock s) (there s).offset
       → filled_instant (states_of tz) today last f ≡ Some (record { instant = s; guess = (there s).offset })
   unfolding filled_instant
@@ -95,7 +110,8 @@ module _ (tz : TimeZone) where
       ∙ ap (λ (b : Bool). found_at (states_of tz) last b (clock s)) leap
       ∙ found-at-own last s e flag again
 
-  time-own : (today : LocalTime) (last : LastShown) (f : Fields) (s : ℤ) → is_instant s ≡ true → filled_instant (states_of tz) today last f ≡ Some (record { instant = s; guess = (there s).offset })
+  time-own : (today : LocalTime) (last : LastShown) (f : Fields) (s : ℤ) → is_instant s ≡ true
+      → filled_instant (states_of tz) today last f ≡ Some (record { instant = s; guess = (there s).offset })
       → filled_time (states_of tz) today last f ≡ Some (record { seconds = s; offset = (there s).offset })
   unfolding filled_time
   time-own today last f s e is =
@@ -113,7 +129,8 @@ module _ (tz : TimeZone) where
   unfolding found_offset
   clock-instant guess s again = by (is_instant (clock s)) _ refl again
     where
-      by : (b : Bool) (found : Option ℤ) → is_instant (clock s) ≡ b → cond b found None ≡ Some (there s).offset → is_instant (clock s) ≡ true
+      by : (b : Bool) (found : Option ℤ) → is_instant (clock s) ≡ b → cond b found None ≡ Some (there s).offset
+          → is_instant (clock s) ≡ true
       by true found is e = is
       by false found is e = absurd cc
 
@@ -123,13 +140,16 @@ module _ (tz : TimeZone) where
       let within = instant_holds (clock s) instant in
       (omega (arith, signed_arith, since, near), within.1)
 
-  pub reaches-in : (now : ℤ) (back : ℕ) → is_instant now ≡ true → pos 0 ≤ℤ now → IsFoundAgain (states_of tz) (pos 0) (clock now) (there now).offset
-      → pos 0 ≤ℤ (now -ℤ pos back) → IsFoundAgain (states_of tz) (there now).offset (clock (now -ℤ pos back)) (there (now -ℤ pos back)).offset
+  pub reaches-in : (now : ℤ) (back : ℕ) → is_instant now ≡ true → pos 0 ≤ℤ now
+      → IsFoundAgain (states_of tz) (pos 0) (clock now) (there now).offset
+      → pos 0 ≤ℤ (now -ℤ pos back)
+      → IsFoundAgain (states_of tz) (there now).offset (clock (now -ℤ pos back)) (there (now -ℤ pos back)).offset
       → Reaches (states_of tz) now back (there now) (there (now -ℤ pos back))
   reaches-in now back instant since again then_since then_again =
       let then = now -ℤ pos back in
       let within = instant_holds now instant in
-      let then_instant : is_instant then ≡ true = instant_from then (omega (arith, signed_arith, then_since), omega (arith, signed_arith, within)) in
+      let then_instant : is_instant then ≡ true =
+      instant_from then (omega (arith, signed_arith, then_since), omega (arith, signed_arith, within)) in
       let here = clock-back now since (clock-instant (pos 0) now again) in
       let told = clock-back then then_since (clock-instant (there now).offset then then_again) in
       let today = (clock_there (there now) now).clock in
@@ -217,19 +237,30 @@ module _ (moment : Zoned) (found : IsFoundNow moment) where
       let d = first_draft here.shown in
       let moved = moves zone now 0 from then now-reached d 3 refl refl in
       ap (λ (s : Option ZoneClock). guess_by zone this (codes "now") s) now-reached.now_shown
-      ∙ ap (λ (d : Result Draft Fault). answer_of zone here (codes "now") d) (now-drafted zone here (with_shown d from.offset (clock_there then (now -ℤ pos 0))) moved)
+      ∙ ap (λ (d : Result Draft Fault). answer_of zone here (codes "now") d)
+      (now-drafted zone here (with_shown d from.offset (clock_there then (now -ℤ pos 0))) moved)
       ∙ answered zone now 0 from then now-reached (codes "now") ∙ ap (λ (n : ℤ). itself n None) same
 
   -- the moment's own clock is filled in with it
-  pub now-timed : filled_time zone here.shown.clock (last_of (pos 0) here.shown) (clock_fields here.shown.clock) ≡ Some (record { seconds = now; offset = from.offset })
-  now-timed = time-own tz here.shown.clock (last_of (pos 0) here.shown) (clock_fields here.shown.clock) now (moment-instant moment) now-reached.filled_now
+  pub now-timed : filled_time zone here.shown.clock (last_of (pos 0) here.shown) (clock_fields here.shown.clock)
+      ≡ Some (record { seconds = now; offset = from.offset })
+  now-timed = time-own tz here.shown.clock (last_of (pos 0) here.shown) (clock_fields here.shown.clock) now (moment-instant moment)
+      now-reached.filled_now
 
-  zero-answered : answer_of zone here (codes "0 seconds ago") (draft_of zone here (codes "0 seconds ago")) ≡ Ok (moment_itself moment (Some 0))
+  zero-answered : answer_of zone here (codes "0 seconds ago") (draft_of zone here (codes "0 seconds ago"))
+      ≡ Ok (moment_itself moment (Some 0))
   unfolding settle
   zero-answered =
       ap (λ (d : Result Draft Fault). answer_of zone here (codes "0 seconds ago") d) (no-count zone here)
       ∙ ap (λ (t : Option Time). answer (codes "0 seconds ago")
-      (record { fields = clock_fields here.shown.clock; last = last_of (pos 0) here.shown; waiting = None; understood = true; ignored = Some 13 }) t) now-timed
+      (record {
+        fields = clock_fields here.shown.clock;
+        last = last_of (pos 0) here.shown;
+        waiting = None;
+        understood = true;
+        ignored =
+            Some 13;
+      }) t) now-timed
       ∙ ap (λ (b : Bool). cond b (itself now (Some 0)) (Err Range)) (z_holds (pos 0) now found.0)
 
   zero-guessed : string_guess zone this (codes "0 seconds ago") ≡ Ok (moment_itself moment (Some 0))
@@ -237,7 +268,8 @@ module _ (moment : Zoned) (found : IsFoundNow moment) where
   zero-guessed = ap (λ (s : Option ZoneClock). guess_by zone this (codes "0 seconds ago") s) now-reached.now_shown ∙ zero-answered
 
   itself-answered : (text : List ℕ) (result : Result Approximate DateError) (ignored : Option ℕ) → string_len text ≡ length text
-      → string_said this text ≡ Err Unreadable → string_guess zone this text ≡ Ok (moment_itself moment ignored) → ApproximateOutcome moment text result
+      → string_said this text ≡ Err Unreadable → string_guess zone this text ≡ Ok (moment_itself moment ignored)
+      → ApproximateOutcome moment text result
       → result ≡ Ok (moment_itself moment ignored)
   itself-answered text result ignored whole undated is answers =
       let unread : Err Unreadable ≡ date_of tz (said_by this text) = ap (date_of tz) (sym (whole-said this text whole ∙ undated)) in

@@ -1,5 +1,6 @@
 -- Formats that show what modes show.
-use Rattle.std.proofs.Common.{◌≡◌, ◌∙◌, ◌<◌, ◌≤◌, ℕ, Bool, true, false, cond, int_le, decimal, List, refl, ap, sym, subst, arith, ℤ, pos, neg_ℤ, ◌≤ℤ◌, unsigned_abs, Option, Some, None, option_map, codes}
+use Rattle.std.proofs.Common.{◌≡◌, ◌∙◌, ◌<◌, ◌≤◌, ℕ, Bool, true, false, cond, int_le, decimal, List, refl, ap, sym, subst, arith, ℤ, pos}
+use Rattle.std.proofs.Common.{neg_ℤ, ◌≤ℤ◌, unsigned_abs, Option, Some, None, option_map, codes}
 use Rattle.std.proofs.lemmas.Bool.{and_parts}
 use Rattle.std.proofs.lemmas.Int.{ints, by_lt_z}
 use Rattle.std.specs.Int.{int_rem_euclid}
@@ -62,7 +63,8 @@ AreDigits date = (1000 ≤ unsigned_abs date.0) × (unsigned_abs date.0 ≤ 9999
 
 date-digits : (date : Date) → neg_ℤ (pos 25_567) ≤ℤ epoch_day date → AreDigits (date.year, date.month, date.day)
 date-digits date h =
-    let low : pos 1900 ≤ℤ date.year = by_lt_z date.year (pos 1900) (λ lt. absurd (omega (arith, signed_arith, before-1900 date lt, h))) (λ ge. ge) in
+    let low : pos 1900 ≤ℤ date.year =
+    by_lt_z date.year (pos 1900) (λ lt. absurd (omega (arith, signed_arith, before-1900 date lt, h))) (λ ge. ge) in
     let some = one_part date.year in
     let year_in = date.year_in in
     let long = days_in_month_bounds date.year date.month in (
@@ -80,7 +82,8 @@ unfolding clock_of
 digits-of t h =
     let found = datetime_exists (nanos_of_seconds (local_seconds t)) (omega (arith, signed_arith, h), omega (arith, signed_arith, h)) in
     let date = found.0.date in
-    let day : epoch_day date ≡ local_day t = omega (arith, signed_arith, found.1, civil_nanos-parts found.0, time_nanos_bound found.0.time) in
+    let day : epoch_day date ≡ local_day t =
+    omega (arith, signed_arith, found.1, civil_nanos-parts found.0, time_nanos_bound found.0.time) in
     let digits = subst AreDigits (shown-date date (local_day t) day) (date-digits date (omega (arith, signed_arith, h, day))) in
     let rem = one_part (int_rem_euclid (local_seconds t) (pos 86_400)) in
     record {
@@ -114,15 +117,18 @@ own-shown-clock t clock e = by (has_own_clock t) refl e
 zone-dated-clock : (zone : TimeZone) (s : ℤ) → has_zone_clock s ≡ true → IsShownClock s (with_known_offset (clock_of (time_at zone s)))
 zone-dated-clock zone s h =
     let within = zone_dated s h in
-    let near = offset-near zone (nanos_of_seconds s) in
-    (not-before s within.0, digits-of (time_at zone s) (omega (arith, signed_arith, within, near), omega (arith, signed_arith, within, near)))
+    let near = offset-near zone (nanos_of_seconds s) in (
+      not-before s within.0,
+      digits-of (time_at zone s) (omega (arith, signed_arith, within, near), omega (arith, signed_arith, within, near)),
+    )
 
 zone-shown-clock : (zone : TimeZone) (s : ℤ) (clock : LocalTime) → zone_clock zone s ≡ Some clock → IsShownClock s clock
 unfolding zone_clock
 zone-shown-clock zone s clock e = grind (arith, zone-dated-clock)
 
 -- what pieces without seconds show of each clock, which the mode's text is
-alike : (past : Bool) (found : Option LocalTime) (show : LocalTime → Shown) (ps : List Piece) (text : LocalTime → List ℕ) → asks_seconds ps ≡ false
+alike : (past : Bool) (found : Option LocalTime) (show : LocalTime → Shown) (ps : List Piece) (text : LocalTime → List ℕ)
+    → asks_seconds ps ≡ false
     → ((clock : LocalTime) → found ≡ Some clock → (past ≡ false) × (pieces_text (show clock) ps ≡ text clock))
     → (option_map show found >>= shown_pieces ps) ≡ cond past None (option_map text found)
 alike true None show ps text none is = refl
@@ -130,18 +136,21 @@ alike false None show ps text none is = refl
 alike past (Some clock) show ps text none is = grind (arith, and-false)
 
 -- the texts of both patterns
-iso8601-texts : (seen : Shown) → HasDigits seen.clock.date seen.clock.clock → pieces_text seen (pieces_or_none iso8601_pattern) ≡ iso8601_text seen.clock
+iso8601-texts : (seen : Shown) → HasDigits seen.clock.date seen.clock.clock
+    → pieces_text seen (pieces_or_none iso8601_pattern) ≡ iso8601_text seen.clock
 unfolding pieces pieces_in next_piece made_at digits_number
 iso8601-texts seen has = grind (arith, four_filled, two_filled)
 
-short-texts : (seen : Shown) → HasDigits seen.clock.date seen.clock.clock → pieces_text seen (pieces_or_none (codes "%F")) ≡ short_text seen.clock
+short-texts : (seen : Shown) → HasDigits seen.clock.date seen.clock.clock
+    → pieces_text seen (pieces_or_none (codes "%F")) ≡ short_text seen.clock
 unfolding pieces pieces_in next_piece made_at digits_number
 short-texts seen has = grind (arith, four_filled, two_filled)
 
 module _ (pattern : List ℕ) (text : LocalTime → List ℕ) (none : asks_seconds (pieces_or_none pattern) ≡ false)
     (is : (seen : Shown) → HasDigits seen.clock.date seen.clock.clock → pieces_text seen (pieces_or_none pattern) ≡ text seen.clock)
     (zone : TimeZone) (t : Time) where
-  by-clock : (local : Bool) → shown_by_format zone local pattern t ≡ cond (lt_z t.seconds (pos 0)) None (option_map text (cond local (zone_clock zone t.seconds) (own_clock t)))
+  by-clock : (local : Bool) → shown_by_format zone local pattern t
+      ≡ cond (lt_z t.seconds (pos 0)) None (option_map text (cond local (zone_clock zone t.seconds) (own_clock t)))
   unfolding shown_by_format own_shown zone_shown
   by-clock true =
       alike (lt_z t.seconds (pos 0)) (zone_clock zone t.seconds) (zone_shown_by zone t.seconds) (pieces_or_none pattern) text none

@@ -44,7 +44,8 @@ moment-instant moment = whole-instant (zoned_nanos moment) (plain_zoned moment).
 pub same_in_any_case : (moment : Zoned) (text : List ℕ) → HasAnswerInAnyCase moment text
 same_in_any_case moment text other result again same h g =
     let zone = states_of (zone_of moment) in
-    h ∙ ap (λ (said : Result Said DateError). exact_of moment text zone (date_of (zone_of moment) said)) (same-case (now_of moment) text other same)
+    h ∙ ap (λ (said : Result Said DateError). exact_of moment text zone (date_of (zone_of moment) said))
+    (same-case (now_of moment) text other same)
     ∙ ap (exact_or_guess (date_of (zone_of moment) (said_by (now_of moment) other))) (sym (guess-lower zone (now_of moment) text)
     ∙ ap (guess zone (now_of moment)) (equal-bytes (lower text) (lower other) same) ∙ guess-lower zone (now_of moment) other) ∙ sym g
 

@@ -1,5 +1,6 @@
 -- Which texts the moment's instant matters to.
-use Rattle.std.specs.Prelude.{◌≡◌, ℕ, zero, suc, Bool, false, not, ◌&&◌, ◌||◌, List, [], ◌∷◌, length, ◌==◌, nat_le, if◌then◌else◌, Option, Some, None, Ok, Err}
+use Rattle.std.specs.Prelude.{◌≡◌, ℕ, zero, suc, Bool, false, not, ◌&&◌, ◌||◌, List, [], ◌∷◌, length, ◌==◌, nat_le, if◌then◌else◌, Option}
+use Rattle.std.specs.Prelude.{Some, None, Ok, Err}
 use Rattle.gix_date.specs.Text.Characters.{colon}
 use Rattle.git_date.specs.Rules.Digits.{Stepped}
 use Rattle.git_date.specs.Rules.Groups.{ReadTokens, group_of}

@@ -7,7 +7,10 @@ use Rattle.gix_date.specs.declared.error.ParseError.TheVariants as gix
 use Rattle.git_date.specs.declared.error.DateError.{DateError}
 use Rattle.git_date.specs.declared.error.DateError.TheVariants as git
 use Rattle.git_date_tool.specs.declared.answers.refusals.Refusal.{Refusal}
-use Rattle.git_date_tool.specs.declared.answers.refusals.Refusal.TheVariants.{NotText, UnknownFormat, DateConversion, MissingMoment, Range, Unreadable, NumberTooLarge, BackTooFar, YearRefused, Unclear, AfterYear9999, NotUnderstood, Ignored, NoHeader, NotCanonical, NotShown}
+use Rattle.git_date_tool.specs.declared.answers.refusals.Refusal.TheVariants.{NotText, UnknownFormat, DateConversion, MissingMoment, Range}
+use Rattle.git_date_tool.specs.declared.answers.refusals.Refusal.TheVariants.{Unreadable, NumberTooLarge, BackTooFar, YearRefused, Unclear}
+use Rattle.git_date_tool.specs.declared.answers.refusals.Refusal.TheVariants.{AfterYear9999, NotUnderstood, Ignored, NoHeader, NotCanonical}
+use Rattle.git_date_tool.specs.declared.answers.refusals.Refusal.TheVariants.{NotShown}
 
 -- what a refusal is called
 abbrev pub refusal_name : Refusal → List ℕ

@@ -1,5 +1,6 @@
 -- What the words of a command line ask for.
-use Rattle.std.specs.Prelude.{ℕ, Bool, false, ◌==◌, ◌||◌, List, [], ◌∷◌, length, map, if◌then◌else◌, Option, Some, None, option_map, Result, Ok, Err, codes, string_bytes}
+use Rattle.std.specs.Prelude.{ℕ, Bool, false, ◌==◌, ◌||◌, List, [], ◌∷◌, length, map, if◌then◌else◌, Option, Some, None, option_map, Result}
+use Rattle.std.specs.Prelude.{Ok, Err, codes, string_bytes}
 use Rattle.std.specs.List.{find}
 use Rattle.std.specs.Borrow.{Bor}
 use Rattle.std.specs.List.{after_first, before_first, position_or_len}
@@ -8,7 +9,8 @@ use Rattle.std.specs.Str.{bytes_eq}
 use Rattle.gix_date.specs.Text.Characters.{minus}
 use Rattle.gix_date.specs.Text.Names.{value_named}
 use Rattle.git_date_tool.specs.Answers.Shown.{Way, way_named, way_of}
-use Rattle.git_date_tool.specs.CommandLine.Wrong.{about, late_option, no_option, no_reader, no_value, no_way, option_text, twice, two_demands, wrong_words}
+use Rattle.git_date_tool.specs.CommandLine.Wrong.{about, late_option, no_option, no_reader, no_value, no_way, option_text, twice}
+use Rattle.git_date_tool.specs.CommandLine.Wrong.{two_demands, wrong_words}
 use Rattle.git_date_tool.specs.declared.program.arguments.Command.{Command}
 use Rattle.git_date_tool.specs.declared.program.arguments.Command.TheVariants as commands
 use Rattle.git_date_tool.specs.declared.program.arguments.Given.{Given}
@@ -74,7 +76,8 @@ option_named = value_named ((codes "--now", Now) ∷ (codes "--zone", Zone) ∷ 
 -- the reader of a name
 abbrev pub reader_named : List ℕ → Option Reader
 reader_named =
-    value_named ((codes "exact", Exact) ∷ (codes "approxidate", Approxidate) ∷ (codes "careful", Careful) ∷ (codes "gix", Gix) ∷ (codes "header", Header) ∷ [])
+    value_named ((codes "exact", Exact) ∷ (codes "approxidate", Approxidate) ∷ (codes "careful", Careful) ∷ (codes "gix", Gix) ∷
+    (codes "header", Header) ∷ [])
 
 -- Below, what is wrong is what is said of it.
 

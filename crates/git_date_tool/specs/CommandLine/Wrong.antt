@@ -10,10 +10,12 @@ use Rattle.git_date_tool.specs.declared.answers.NoWay.TheVariants.{Unknown, Form
 use Rattle.git_date_tool.specs.declared.program.arguments.Given.{Given}
 use Rattle.git_date_tool.specs.declared.program.arguments.Given.TheVariants.{Now, Zone, As, Show}
 use Rattle.git_date_tool.specs.declared.program.wrong.WrongWords.{WrongWords}
-use Rattle.git_date_tool.specs.declared.program.wrong.WrongWords.TheVariants.{UnknownOption, NoValue, Twice, TwoDemands, UnknownReader, UnknownMode, WrongFormat, LateOption, NotText, NoMoment, NoZone}
+use Rattle.git_date_tool.specs.declared.program.wrong.WrongWords.TheVariants.{UnknownOption, NoValue, Twice, TwoDemands, UnknownReader}
+use Rattle.git_date_tool.specs.declared.program.wrong.WrongWords.TheVariants.{UnknownMode, WrongFormat, LateOption, NotText, NoMoment}
+use Rattle.git_date_tool.specs.declared.program.wrong.WrongWords.TheVariants.{NoZone}
 use Rattle.git_date_tool.specs.declared.zones.ZoneFault.{ZoneFault}
 use Rattle.git_date_tool.specs.declared.zones.ZoneFault.TheVariants as faults
-use Rattle.git_date.specs.declared.zones.texts.TheConstants.{MACHINE_ZONE}
+use Rattle.git_date.specs.declared.zone_texts.TheConstants.{MACHINE_ZONE}
 use Rattle.git_date_tool.specs.declared.zones.ZoneText.{ZoneText}
 use Rattle.git_date_tool.specs.declared.zones.ZoneText.TheVariants as texts
 
@@ -115,7 +117,8 @@ zone_lead texts.Machine = codes "is no zone: "
 abbrev pub zone_fault_text : ZoneFault → List ℕ
 zone_fault_text faults.NotText = codes "it is not UTF-8"
 zone_fault_text faults.NoName = codes "there is none of this name; expected one such as Europe/Berlin, or a rule such as EST5EDT,M3.2.0,M11.1.0, and for --zone also an offset to 25:59, as +0800"
-zone_fault_text faults.NoFolder = codes "for names a time zone database is missing; expected a rule such as EST5EDT,M3.2.0,M11.1.0, and for --zone also +0800"
+zone_fault_text faults.NoFolder =
+    codes "for names a time zone database is missing; expected a rule such as EST5EDT,M3.2.0,M11.1.0, and for --zone also +0800"
 zone_fault_text faults.CountsLeapSeconds = codes "its file counts leap seconds, as no time of Git does"
 zone_fault_text faults.NoFile = codes "there is no such file"
 zone_fault_text faults.Denied = codes "its file may not be read"

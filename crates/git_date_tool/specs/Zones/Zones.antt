@@ -1,4 +1,5 @@
--- Which zone a command line asks for. Offsets and rules are zones by their text alone. Of files no contract can say what the system has: the
+-- Which zone a command line asks for. Offsets and rules are zones by their text alone. Of files no contract can say what the system has:
+-- the
 -- bytes of a file are some that it gave.
 use Rattle.std.specs.Prelude.{◌≡◌, ◌⊎◌, ℕ, ◌≤◌, List, length, ℤ, Option, Some, None, Ok, IsSome}
 use Rattle.jiff.specs.Placed.{fixed_zone}

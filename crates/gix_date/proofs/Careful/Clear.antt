@@ -19,7 +19,8 @@ either : (a b : Bool) (n : ℕ) → (a ≡ true → n < 128) → (b ≡ true →
 either true b n f g h = f refl
 either false b n f g h = g h
 
-chosen : (text : List ℕ) (place : ℕ) (begins fits : Bool) → begins_word text place ≡ begins → cond begins fits (in_word text place || separates text place) ≡ true → slice_index text place < 128
+chosen : (text : List ℕ) (place : ℕ) (begins fits : Bool) → begins_word text place ≡ begins
+    → cond begins fits (in_word text place || separates text place) ≡ true → slice_index text place < 128
 chosen text place true fits e h = word_is_ascii (slice_index text place) (both (in_word text place) (not (after_word text place)) e).0
 chosen text place false fits e h = grind (arith, nat_tests, common_steps, either, word_is_ascii, separator_is_ascii, dash_is_ascii)
 

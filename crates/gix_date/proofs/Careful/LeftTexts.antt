@@ -1,18 +1,23 @@
 -- What is left of a text where a form stops is its end, so that the text may be cut there.
-use Rattle.std.proofs.Common.{arith, ◌≡◌, ◌∙◌, ℕ, ℤ, Bool, true, false, cond, List, [], ◌∷◌, ◌++◌, length, refl, ap, sym, subst, append-nil, append_assoc, Option, Some, None, option_map, inl, inr, take-append-drop}
+use Rattle.std.proofs.Common.{arith, ◌≡◌, ◌∙◌, ℕ, ℤ, Bool, true, false, cond, List, [], ◌∷◌, ◌++◌, length, refl, ap, sym, subst, append-nil}
+use Rattle.std.proofs.Common.{append_assoc, Option, Some, None, option_map, inl, inr, take-append-drop}
 use Rattle.std.proofs.lemmas.Option.{same_Some as some-is, cond_some as guard}
 use Rattle.std.specs.Char.{is_ascii_digit}
 use Rattle.std.specs.List.{prefix_len}
 use Rattle.std.specs.Prelude.{drop, take, is_some, unwrap_or}
-use Rattle.gix_date.specs.Careful.Fronts.{Part, left_by, perhaps, taken_by, skip_number, skip_marked, skip_day, skip_clock, skip_named_day, skip_offset, skip_git_day, skip_bare_fraction, skip_git_clock, git_parts, iso8601_parts, strict_parts, rfc2822_parts, gitoxide_parts, default_parts, IsRestOf}
+use Rattle.gix_date.specs.Careful.Fronts.{Part, left_by, perhaps, taken_by, skip_number, skip_marked, skip_day, skip_clock, skip_named_day}
+use Rattle.gix_date.specs.Careful.Fronts.{skip_offset, skip_git_day, skip_bare_fraction, skip_git_clock, git_parts, iso8601_parts}
+use Rattle.gix_date.specs.Careful.Fronts.{strict_parts, rfc2822_parts, gitoxide_parts, default_parts, IsRestOf}
 use Rattle.gix_date.specs.Careful.Grammar.{AreSomeDigits}
 use Rattle.gix_date.specs.Fields.Civil.{is_date, is_clock}
-use Rattle.gix_date.specs.Fields.DateFields.{skip_spaces, skip_weekday, skip_day_name, read_month, read_plain_date, read_clock, read_rfc2822_clock}
+use Rattle.gix_date.specs.Fields.DateFields.{skip_spaces, skip_weekday, skip_day_name, read_month, read_plain_date, read_clock}
+use Rattle.gix_date.specs.Fields.DateFields.{read_rfc2822_clock}
 use Rattle.gix_date.specs.Text.Front.{ReadFront, skip_char, ◌>>=◌}
 use Rattle.gix_date.specs.Git.Forms.{git_front}
 use Rattle.gix_date.specs.Text.Characters.{colon, dot}
 use Rattle.gix_date.specs.Text.Numbers.{read_two_digits, read_field, read_year}
-use Rattle.gix_date.proofs.Fields.FieldsTaken.{went, first-or, front-passes, after-taken, field-taken, two-taken, year-taken, spaces-taken, month-taken, weekday-taken, prefix-taken, date-taken, clock-taken, rfc2822-clock-taken}
+use Rattle.gix_date.proofs.Fields.FieldsTaken.{went, first-or, front-passes, after-taken, field-taken, two-taken, year-taken, spaces-taken}
+use Rattle.gix_date.proofs.Fields.FieldsTaken.{month-taken, weekday-taken, prefix-taken, date-taken, clock-taken, rfc2822-clock-taken}
 use Rattle.gix_date.proofs.Git.Fronts.{front-taken}
 
 -- what `IsRestOf` says
@@ -37,7 +42,8 @@ left-is [] whole [] h r = ([], refl)
 left-is [] whole (c ∷ rest) h r = r
 left-is (part ∷ parts) whole rest h r = by (λ next k. left-is parts whole next h.1 k) (part rest) refl
   where
-    by : ((next : List ℕ) → EndsIn whole next → EndsIn whole (left_by parts whole next)) → (o : Option (List ℕ)) → part rest ≡ o → EndsIn whole (unwrap_or (option_map (left_by parts whole) o) rest)
+    by : ((next : List ℕ) → EndsIn whole next → EndsIn whole (left_by parts whole next)) → (o : Option (List ℕ)) → part rest ≡ o
+        → EndsIn whole (unwrap_or (option_map (left_by parts whole) o) rest)
     by more None e = r
     by more (Some next) e = more next (through whole rest next r (h.0 rest next e))
 
@@ -47,14 +53,16 @@ left-all [] [] h = ([], refl)
 left-all [] (c ∷ text) h = ([], refl)
 left-all (part ∷ parts) text h = by (λ next. left-all parts next h.1) (part text) refl
   where
-    by : ((next : List ℕ) → EndsIn next (left_by parts [] next)) → (o : Option (List ℕ)) → part text ≡ o → EndsIn text (unwrap_or (option_map (left_by parts []) o) text)
+    by : ((next : List ℕ) → EndsIn next (left_by parts [] next)) → (o : Option (List ℕ)) → part text ≡ o
+        → EndsIn text (unwrap_or (option_map (left_by parts []) o) text)
     by more None e = ([], refl)
     by more (Some next) e = through text next (left_by parts [] next) (h.0 text next e) (more next)
 
 perhaps-is : (part : Part) → IsPart part → IsPart (perhaps part)
 perhaps-is part h text rest e = grind (arith, turned, some-is)
 
-taken-is : {A : Type 0} (read : List ℕ → ReadFront A) → ((text : List ℕ) (value : A) (rest : List ℕ) → read text ≡ Some (value, rest) → EndsIn text rest) → IsPart (taken_by read)
+taken-is : {A : Type 0} (read : List ℕ → ReadFront A)
+    → ((text : List ℕ) (value : A) (rest : List ℕ) → read text ≡ Some (value, rest) → EndsIn text rest) → IsPart (taken_by read)
 taken-is {A} read h text rest e = by (read text) refl e
   where
     by : (o : Option (A × List ℕ)) → read text ≡ o → option_map (λ (f : A × List ℕ). f.1) o ≡ Some rest → EndsIn text rest
@@ -90,7 +98,8 @@ prefix-is : IsPart skip_day_name
 prefix-is text rest e = let h = prefix-taken text rest e in (h.text, h.whole)
 
 -- a part that is read and passes a test
-tested-is : {A : Type 0} (read : List ℕ → ReadFront A) (test : A → Bool) → ((text : List ℕ) (value : A) (rest : List ℕ) → read text ≡ Some (value, rest) → EndsIn text rest)
+tested-is : {A : Type 0} (read : List ℕ → ReadFront A) (test : A → Bool)
+    → ((text : List ℕ) (value : A) (rest : List ℕ) → read text ≡ Some (value, rest) → EndsIn text rest)
     → IsPart (λ text. read text >>= λ (d : A × List ℕ). cond (test d.0) (Some d.1) None)
 tested-is {A} read test h text rest e =
     let d = went (read text) (λ (d : A × List ℕ). cond (test d.0) (Some d.1) None) rest e in
@@ -106,7 +115,8 @@ clock-is = tested-is read_clock is_clock (λ text value rest e. let h = clock-ta
 
 git-day-is : IsPart skip_git_day
 unfolding skip_git_day
-git-day-is = tested-is git_front is_date (λ text value rest e. let h = front-taken text value rest e in (h.day ++ h.gap, h.whole ∙ sym (append_assoc h.day h.gap rest)))
+git-day-is = tested-is git_front is_date
+    (λ text value rest e. let h = front-taken text value rest e in (h.day ++ h.gap, h.whole ∙ sym (append_assoc h.day h.gap rest)))
 
 named-day-is : IsPart skip_named_day
 unfolding skip_named_day
@@ -121,23 +131,29 @@ unfolding skip_number
 number-taken [] rest e = absurd cc
 number-taken (c ∷ t) rest e =
     let n = prefix_len is_ascii_digit t in
-    let g = guard (is_ascii_digit c) (drop n t) rest e in
-    (c ∷ take n t, ap (λ xs. c ∷ xs) (sym (take-append-drop n t) ∙ ap (λ xs. take n t ++ xs) g.1), rw (g.0, front-passes is_ascii_digit t) refl)
+    let g = guard (is_ascii_digit c) (drop n t) rest e in (
+      c ∷ take n t,
+      ap (λ xs. c ∷ xs) (sym (take-append-drop n t) ∙ ap (λ xs. take n t ++ xs) g.1),
+      rw (g.0, front-passes is_ascii_digit t) refl,
+    )
 
 -- the same after a mark
-marked-taken : (mark : ℕ) (text rest : List ℕ) → skip_marked mark text ≡ Some rest → (run : List ℕ) × (text ≡ mark ∷ (run ++ rest)) × AreSomeDigits run
+marked-taken : (mark : ℕ) (text rest : List ℕ) → skip_marked mark text ≡ Some rest
+    → (run : List ℕ) × (text ≡ mark ∷ (run ++ rest)) × AreSomeDigits run
 unfolding skip_marked
 marked-taken mark text rest e = grind (arith, went, number-taken, after-taken)
 
 -- six digits and a fraction
 abbrev IsBare : List ℕ → List ℕ → Type 0
 IsBare text rest =
-    (six : List ℕ) × (fraction : List ℕ) × (text ≡ six ++ dot ∷ (fraction ++ rest)) × (length six ≡ 6) × AreSomeDigits six × AreSomeDigits fraction
+    (six : List ℕ) × (fraction : List ℕ) × (text ≡ six ++ dot ∷ (fraction ++ rest)) × (length six ≡ 6) × AreSomeDigits six
+    × AreSomeDigits fraction
 
 bare-taken : (text rest : List ℕ) → skip_bare_fraction text ≡ Some rest → IsBare text rest
 unfolding skip_bare_fraction
 bare-taken text rest e =
-    let h = went (read_two_digits text) (λ (h : ℕ × List ℕ). read_two_digits h.1 >>= λ m. read_two_digits m.1 >>= λ s. skip_marked dot s.1) rest e in
+    let h = went (read_two_digits text) (λ (h : ℕ × List ℕ). read_two_digits h.1 >>= λ m. read_two_digits m.1 >>= λ s. skip_marked dot s.1)
+    rest e in
     let m = went (read_two_digits h.0.1) (λ (m : ℕ × List ℕ). read_two_digits m.1 >>= λ s. skip_marked dot s.1) rest h.2 in
     let s = went (read_two_digits m.0.1) (λ (s : ℕ × List ℕ). skip_marked dot s.1) rest m.2 in
     let a = two-taken text h.0.0 h.0.1 h.1 in
@@ -176,30 +192,46 @@ git-clock-is text rest e =
     by None f e = absurd cc
     by (Some next) f e =
         turned text (left_by clock-parts [] next) rest (some-is (left_by clock-parts [] next) rest e)
-        (through text next (left_by clock-parts [] next) (number-is text next f) (left-all clock-parts next (marked-is colon, (marked-is colon, (marked-is dot, tt)))))
+        (through text next (left_by clock-parts [] next) (number-is text next f)
+        (left-all clock-parts next (marked-is colon, (marked-is colon, (marked-is dot, tt)))))
 
 -- What is left where each form stops.
 
 pub git_left : (text rest : List ℕ) → rest ≡ left_by git_parts text text → IsRestOf text rest
 unfolding IsRestOf
-git_left text rest e = turned text _ rest (sym e) (left-is git_parts text text (perhaps-is skip_spaces spaces-is, (git-day-is, (perhaps-is skip_spaces spaces-is, (git-clock-is, (perhaps-is skip_spaces spaces-is, (offset-is _, tt)))))) ([], refl))
+git_left text rest e = turned text _ rest (sym e) (left-is git_parts text text (
+  perhaps-is skip_spaces spaces-is,
+  (git-day-is, (perhaps-is skip_spaces spaces-is, (git-clock-is, (perhaps-is skip_spaces spaces-is, (offset-is _, tt))))),
+) ([], refl))
 
 pub iso8601_left : (text rest : List ℕ) → rest ≡ left_by iso8601_parts text text → IsRestOf text rest
 unfolding IsRestOf
-iso8601_left text rest e = turned text _ rest (sym e) (left-is iso8601_parts text text (day_is_named, (spaces-is, (clock-is, (spaces-is, (offset-is _, tt))))) ([], refl))
+iso8601_left text rest e = turned text _ rest (sym e)
+    (left-is iso8601_parts text text (day_is_named, (spaces-is, (clock-is, (spaces-is, (offset-is _, tt))))) ([], refl))
 
 pub strict_left : (text rest : List ℕ) → rest ≡ left_by strict_parts text text → IsRestOf text rest
 unfolding IsRestOf
-strict_left text rest e = turned text _ rest (sym e) (left-is strict_parts text text (day_is_named, (char-is _, (clock-is, (offset-is _, tt)))) ([], refl))
+strict_left text rest e =
+    turned text _ rest (sym e) (left-is strict_parts text text (day_is_named, (char-is _, (clock-is, (offset-is _, tt)))) ([], refl))
 
 pub rfc2822_left : (text rest : List ℕ) → rest ≡ left_by rfc2822_parts text text → IsRestOf text rest
 unfolding IsRestOf
-rfc2822_left text rest e = turned text _ rest (sym e) (left-is rfc2822_parts text text (perhaps-is skip_day_name prefix-is, (field-is, (spaces-is, (month-is, (spaces-is, (year-is, (spaces-is, (rfc2822-clock-is, (spaces-is, (offset-is _, tt)))))))))) ([], refl))
+rfc2822_left text rest e = turned text _ rest (sym e) (left-is rfc2822_parts text text (
+  perhaps-is skip_day_name prefix-is,
+  (field-is, (spaces-is, (month-is, (spaces-is, (year-is, (spaces-is, (rfc2822-clock-is, (spaces-is, (offset-is _, tt))))))))),
+) (
+  [],
+  refl,
+))
 
 pub gitoxide_left : (text rest : List ℕ) → rest ≡ left_by gitoxide_parts text text → IsRestOf text rest
 unfolding IsRestOf
-gitoxide_left text rest e = turned text _ rest (sym e) (left-is gitoxide_parts text text (named-day-is, (month-is, (spaces-is, (field-is, (spaces-is, (year-is, (spaces-is, (clock-is, (spaces-is, (offset-is _, tt)))))))))) ([], refl))
+gitoxide_left text rest e = turned text _ rest (sym e) (left-is gitoxide_parts text text
+    (named-day-is, (month-is, (spaces-is, (field-is, (spaces-is, (year-is, (spaces-is, (clock-is, (spaces-is, (offset-is _, tt))))))))))
+    ([], refl))
 
 pub default_left : (text rest : List ℕ) → rest ≡ left_by default_parts text text → IsRestOf text rest
 unfolding IsRestOf
-default_left text rest e = turned text _ rest (sym e) (left-is default_parts text text (named-day-is, (month-is, (spaces-is, (field-is, (spaces-is, (clock-is, (spaces-is, (year-is, (spaces-is, (offset-is _, tt)))))))))) ([], refl))
+default_left text rest e = turned text _ rest (sym e) (left-is default_parts text text
+    (named-day-is, (month-is, (spaces-is, (field-is, (spaces-is, (clock-is, (spaces-is, (year-is, (spaces-is, (offset-is _, tt))))))))))
+    ([], refl))

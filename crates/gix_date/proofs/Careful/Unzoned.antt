@@ -10,8 +10,8 @@ use Rattle.gix_date.specs.Text.Front.{◌>>=◌}
 use Rattle.gix_date.specs.Git.ClockCut.{Cut}
 use Rattle.gix_date.specs.Git.Forms.{time_of_cut}
 use Rattle.gix_date.specs.Fields.Zoned.{is_instant}
-use Rattle.gix_date.specs.declared.civil.ClockFields.{ClockFields}
-use Rattle.gix_date.specs.declared.civil.DateFields.{DateFields}
+use Rattle.gix_date.specs.declared.clock.ClockFields.{ClockFields}
+use Rattle.gix_date.specs.declared.clock.DateFields.{DateFields}
 use Rattle.gix_date.specs.declared.time.Time.{Time}
 
 abbrev pub HasInstant : Option Time → Type 0
@@ -41,7 +41,8 @@ in_utc : (a : Option ℤ) → IfSome a (λ s. is_instant s ≡ true) → HasInst
 in_utc None h = tt
 in_utc (Some s) h = h
 
-at_offset : (a : Option ℤ) (offset : ℤ) → IfSome a (λ s. is_instant s ≡ true) → HasInstant (a >>= λ s. Some (record { seconds = s; offset = offset }))
+at_offset : (a : Option ℤ) (offset : ℤ) → IfSome a (λ s. is_instant s ≡ true)
+    → HasInstant (a >>= λ s. Some (record { seconds = s; offset = offset }))
 at_offset None offset h = tt
 at_offset (Some s) offset h = h
 
@@ -60,7 +61,8 @@ pub git_has : (text : List ℕ) → HasInstant (unzoned_git_time text)
 unfolding unzoned_git_time
 git_has text = grind (arith, after, unless, cut_has)
 
-pub git_instant : (text : List ℕ) (zoned : Bool) (t : Time) → unzoned_git_time text ≡ cond zoned None (Some t) → zoned ≡ false → is_instant t.seconds ≡ true
+pub git_instant : (text : List ℕ) (zoned : Bool) (t : Time) → unzoned_git_time text ≡ cond zoned None (Some t) → zoned ≡ false
+    → is_instant t.seconds ≡ true
 git_instant text zoned t e f = subst HasInstant (e ∙ ap (λ (b : Bool). cond b None (Some t)) f) (git_has text)
 
 pub unzoned_has : (text : List ℕ) → HasInstant (unzoned_time text)

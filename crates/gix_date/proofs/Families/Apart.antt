@@ -1,5 +1,7 @@
 -- No text is of two of the families before Git's own forms.
-use Rattle.std.proofs.Common.{◌≡◌, ◌∙◌, ◌≤◌, ◌+◌, ◌-◌, ◌*◌, ℕ, le_refl, zero, suc, drop, get_or, ℤ, Bool, true, false, cond, List, [], ◌∷◌, ◌++◌, length, refl, ap, sym, subst, Option, Some, None, is_some, filter, inl, inr, ◌⊎◌, append_assoc, option_map, arith}
+use Rattle.std.proofs.Common.{◌≡◌, ◌∙◌, ◌≤◌, ◌+◌, ◌-◌, ◌*◌, ℕ, le_refl, zero, suc, drop, get_or, ℤ, Bool, true, false, cond, List, [], ◌∷◌}
+use Rattle.std.proofs.Common.{◌++◌, length, refl, ap, sym, subst, Option, Some, None, is_some, filter, inl, inr, ◌⊎◌, append_assoc}
+use Rattle.std.proofs.Common.{option_map, arith}
 use Rattle.std.proofs.lemmas.Bool.Decides.{nat_tests}
 use Rattle.std.specs.Prelude.{◌==◌, ◌&&◌}
 use Rattle.std.specs.Char.{is_ascii_digit, is_ascii_alphabetic}
@@ -11,14 +13,18 @@ use Rattle.gix_date.specs.Fields.FieldTexts.{IsField, IsYear, AreSpaces, IsDayNa
 use Rattle.gix_date.specs.Text.Front.{skip_char, ◌>>=◌}
 use Rattle.gix_date.specs.Text.Numbers.{int_value, read_two_digits, read_digit, read_field, read_year}
 use Rattle.gix_date.specs.Fields.DateFields.{skip_day_name, skip_spaces, read_name, skip_weekday, read_plain_date, read_clock, read_minutes}
-use Rattle.gix_date.specs.Families.Patterns.{gitoxide_layout, iso8601_layout, time_answer, short_answer, rfc2822_answer, iso8601_answer, iso8601_strict_answer, gitoxide_answer, default_answer}
-use Rattle.gix_date.proofs.Fields.FieldsRead.{Begins, BeginsNot, Excludes, begins-append, begins_not, digit-no-letter, letter-no-digit, space-no-digit, digit-no-space, field-begins, year-begins, name-begins, weekday-read, date-read}
+use Rattle.gix_date.specs.Families.Patterns.{gitoxide_layout, iso8601_layout, time_answer, short_answer, rfc2822_answer, iso8601_answer}
+use Rattle.gix_date.specs.Families.Patterns.{iso8601_strict_answer, gitoxide_answer, default_answer}
+use Rattle.gix_date.proofs.Fields.FieldsRead.{Begins, BeginsNot, Excludes, begins-append, begins_not, digit-no-letter, letter-no-digit}
+use Rattle.gix_date.proofs.Fields.FieldsRead.{space-no-digit, digit-no-space, field-begins, year-begins, name-begins, weekday-read}
+use Rattle.gix_date.proofs.Fields.FieldsRead.{date-read}
 use Rattle.gix_date.proofs.Fields.FieldsTaken.{went, after-taken, none-unless}
 use Rattle.gix_date.proofs.Fields.Layouts.{piece-taken, apart-after, rfc2822-front, dates_spelled}
 use Rattle.gix_date.specs.Families.Order.{answers_before_git}
 use Rattle.gix_date.specs.Families.Raw.{OffsetRule, is_quarter_offset}
-use Rattle.gix_date.specs.Fields.Layout.{LocalTime, Piece, DayName, MonthName, Day, Year, PlainDate, Clock, Spaces, LetterT, Offset, ColonOffset, read_piece, read_pieces, nothing_read, ArePieces}
-use Rattle.gix_date.specs.declared.civil.DateFields.{DateFields}
+use Rattle.gix_date.specs.Fields.Layout.{LocalTime, Piece, DayName, MonthName, Day, Year, PlainDate, Clock, Spaces, LetterT, Offset}
+use Rattle.gix_date.specs.Fields.Layout.{ColonOffset, read_piece, read_pieces, nothing_read, ArePieces}
+use Rattle.gix_date.specs.declared.clock.DateFields.{DateFields}
 use Rattle.gix_date.specs.declared.time.Time.{Time}
 use Rattle.gix_date.proofs.Fast.FastHeaders.{is_number_byte, int-no-byte, letter-no-number, int-taken}
 use Rattle.gix_date.proofs.Text.Ints.{each_of}
@@ -99,7 +105,8 @@ no-epoch text h = rw h refl
 pub no-epoch-byte : (c : ℕ) (t : List ℕ) → is_number_byte c ≡ false → epoch_time (c ∷ t) ≡ None
 no-epoch-byte c t h = no-epoch (c ∷ t) (none-unless (int_value (c ∷ t)) (λ n e. int-no-byte c t n h e))
 
-pub no-epoch-digits : (front : List ℕ) (c : ℕ) (rest : List ℕ) → Begins is_ascii_digit front → is_ascii_digit c ≡ false → epoch_time (front ++ (c ∷ rest)) ≡ None
+pub no-epoch-digits : (front : List ℕ) (c : ℕ) (rest : List ℕ) → Begins is_ascii_digit front → is_ascii_digit c ≡ false
+    → epoch_time (front ++ (c ∷ rest)) ≡ None
 no-epoch-digits [] c rest b h = absurd b
 no-epoch-digits (d ∷ front) c rest b h = grind (arith, no-epoch, none-unless, int-digits, mixed)
 
@@ -112,7 +119,8 @@ pub no-rfc2822-first : (t : List ℕ) → BeginsNot is_ascii_alphabetic t → Be
 unfolding rfc2822_answer skip_day_name
 no-rfc2822-first t l d = rw (no_weekday t l, no-field t d) refl
 
-pub pair_first : (a b c : ℕ) (rest : List ℕ) → is_ascii_digit a ≡ true → is_ascii_digit b ≡ true → is_ascii_digit c ≡ true → read_field (a ∷ b ∷ c ∷ rest) ≡ Some (10 * (a - 48) + (b - 48), c ∷ rest)
+pub pair_first : (a b c : ℕ) (rest : List ℕ) → is_ascii_digit a ≡ true → is_ascii_digit b ≡ true → is_ascii_digit c ≡ true
+    → read_field (a ∷ b ∷ c ∷ rest) ≡ Some (10 * (a - 48) + (b - 48), c ∷ rest)
 unfolding read_field read_two_digits
 pair_first a b c rest ha hb hc = rw (ha, hb) refl
 
@@ -133,7 +141,8 @@ after-plain day rest date h =
     let more = minus ∷ (h.month ++ (minus ∷ (h.day ++ rest))) in
     let split : day ++ rest ≡ h.year ++ more = rw h.whole (simp append_assoc) in
     let front = begins-append is_ascii_digit h.year more (year-begins h.year date.year h.is_year) in
-    let none = no-day (h.year ++ more) (no_weekday (h.year ++ more) (begins_not is_ascii_digit is_ascii_alphabetic (h.year ++ more) digit-no-letter front)) in
+    let none = no-day (h.year ++ more)
+    (no_weekday (h.year ++ more) (begins_not is_ascii_digit is_ascii_alphabetic (h.year ++ more) digit-no-letter front)) in
     subst AfterPlainDate (sym split) (record {
       rfc2822 = no-rfc2822-year h.year more date.year h.is_year;
       gitoxide = none.gitoxide;
@@ -146,7 +155,9 @@ abbrev NoneFrom : ℕ → List ℕ → Type 0
 NoneFrom n text = filter is_some (drop n (answers_before_git is_quarter_offset text)) ≡ []
 
 -- where each that answers has none after it, at most one does
-at-most-one : (answers : List (Option FamilyAnswer)) → ((n : ℕ) (answer : FamilyAnswer) → get_or answers n None ≡ Some answer → filter is_some (drop (suc n) answers) ≡ []) → length (filter is_some answers) ≤ 1
+at-most-one : (answers : List (Option FamilyAnswer))
+    → ((n : ℕ) (answer : FamilyAnswer) → get_or answers n None ≡ Some answer → filter is_some (drop (suc n) answers) ≡ [])
+    → length (filter is_some answers) ≤ 1
 at-most-one [] alone = omega arith
 at-most-one (None ∷ rest) alone = at-most-one rest (λ n. alone (suc n))
 at-most-one (Some answer ∷ rest) alone = rw (alone 0 answer refl) (le_refl 1)
@@ -166,11 +177,13 @@ unfolding read_clock read_minutes skip_char
 no-clock-year (a ∷ b ∷ c ∷ d ∷ []) rest n h = grind (arith, pair_first, nat_tests)
 no-clock-year year rest n h = absurd h
 
-year-no-clock : (g : LocalTime) (more other : List Piece) (x : List ℕ) (y : LocalTime) → read_pieces (Year ∷ more) g x ≡ Some y → read_pieces (Clock ∷ other) g x ≡ None
+year-no-clock : (g : LocalTime) (more other : List Piece) (x : List ℕ) (y : LocalTime) → read_pieces (Year ∷ more) g x ≡ Some y
+    → read_pieces (Clock ∷ other) g x ≡ None
 year-no-clock g more other x y e =
     let read = went (read_piece Year g x) (λ r. read_pieces more r.0 r.1) y e in
     let first = piece-taken Year g x read.0 read.1 in
-    let none : read_clock x ≡ None = ap read_clock first.whole ∙ no-clock-year first.text read.0.1 read.0.0.date.year (first.is read.0.0 first.kept) in
+    let none : read_clock x ≡ None = ap read_clock first.whole
+    ∙ no-clock-year first.text read.0.1 read.0.0.date.year (first.is read.0.0 first.kept) in
     rw none refl
 
 gitoxide-alone : (text : List ℕ) (answer : FamilyAnswer) → gitoxide_answer text ≡ Some answer → NoneFrom 6 text
@@ -181,7 +194,8 @@ gitoxide-alone text answer e =
     let one = Spaces ∷ Clock ∷ Spaces ∷ Offset ∷ [] in
     let other = Spaces ∷ Year ∷ Spaces ∷ Offset ∷ [] in
     let read = went (read_pieces gitoxide_layout nothing_read text) time_answer answer e in
-    let none : default_answer text ≡ None = ap (λ (found : Option LocalTime). found >>= time_answer) (apart-after begin (Year ∷ one) (Clock ∷ other) nothing_read text read.0 (λ g rest. year-no-clock g one other rest read.0) read.1) in
+    let none : default_answer text ≡ None = ap (λ (found : Option LocalTime). found >>= time_answer) (apart-after begin (Year ∷ one)
+    (Clock ∷ other) nothing_read text read.0 (λ g rest. year-no-clock g one other rest read.0) read.1) in
     rw (none, named-no-epoch h.front h.rest text h.is h.whole) refl
 
 plain-alone : (text : List ℕ) → AfterPlainDate text → NoneFrom 5 text
@@ -201,11 +215,13 @@ unfolding skip_char
 no-t [] rest h = absurd h
 no-t (c ∷ gap) rest h = grind (arith, nat_tests)
 
-spaces-no-t : (g : LocalTime) (more other : List Piece) (x : List ℕ) (y : LocalTime) → read_pieces (Spaces ∷ more) g x ≡ Some y → read_pieces (LetterT ∷ other) g x ≡ None
+spaces-no-t : (g : LocalTime) (more other : List Piece) (x : List ℕ) (y : LocalTime) → read_pieces (Spaces ∷ more) g x ≡ Some y
+    → read_pieces (LetterT ∷ other) g x ≡ None
 spaces-no-t g more other x y e =
     let read = went (read_piece Spaces g x) (λ r. read_pieces more r.0 r.1) y e in
     let first = piece-taken Spaces g x read.0 read.1 in
-    let none : skip_char letter_t x ≡ None = ap (skip_char letter_t) first.whole ∙ no-t first.text read.0.1 (first.is read.0.0 first.kept) in
+    let none : skip_char letter_t x ≡ None = ap (skip_char letter_t) first.whole
+    ∙ no-t first.text read.0.1 (first.is read.0.0 first.kept) in
     rw none refl
 
 iso8601-alone : (text : List ℕ) (answer : FamilyAnswer) → iso8601_answer text ≡ Some answer → NoneFrom 4 text
@@ -216,7 +232,8 @@ iso8601-alone text answer e =
     let other = Clock ∷ ColonOffset ∷ [] in
     let plain = plain-first (Spaces ∷ one) a.time text a.are in
     let read = went (read_pieces iso8601_layout nothing_read text) time_answer answer e in
-    let strict : iso8601_strict_answer text ≡ None = ap (λ (found : Option LocalTime). found >>= time_answer) (apart-after (PlainDate ∷ []) (Spaces ∷ one) (LetterT ∷ other) nothing_read text read.0 (λ g rest. spaces-no-t g one other rest read.0) read.1) in
+    let strict : iso8601_strict_answer text ≡ None = ap (λ (found : Option LocalTime). found >>= time_answer) (apart-after (PlainDate ∷ [])
+    (Spaces ∷ one) (LetterT ∷ other) nothing_read text read.0 (λ g rest. spaces-no-t g one other rest read.0) read.1) in
     rw (strict, plain.gitoxide, plain.default, plain.epoch) refl
 
 not_both : (b : Bool) (v : ℕ) (rest : List ℕ) → option_map {U = ℕ × List ℕ} (λ n. (n, rest)) (cond (b && false) (Some v) None) ≡ None
@@ -227,7 +244,8 @@ pub no_pair_of : (a c : ℕ) (rest : List ℕ) → is_ascii_digit c ≡ false �
 unfolding read_two_digits
 no_pair_of a c rest h = rw h (not_both (is_ascii_digit a) (10 * (a - 48) + (c - 48)) rest)
 
-pub pair_read : (a b : ℕ) (rest : List ℕ) → is_ascii_digit a ≡ true → is_ascii_digit b ≡ true → read_two_digits (a ∷ b ∷ rest) ≡ Some (10 * (a - 48) + (b - 48), rest)
+pub pair_read : (a b : ℕ) (rest : List ℕ) → is_ascii_digit a ≡ true → is_ascii_digit b ≡ true
+    → read_two_digits (a ∷ b ∷ rest) ≡ Some (10 * (a - 48) + (b - 48), rest)
 unfolding read_two_digits
 pair_read a b rest ha hb = rw (ha, hb) refl
 
@@ -251,7 +269,8 @@ record NoOther (text : List ℕ) : Type 0 where
   pub day : NoDayFirst text
   pub epoch : epoch_time text ≡ None
 
-rfc2822-no-other : (prefix day gap rest : List ℕ) (n : ℕ) → (prefix ≡ []) ⊎ IsDayPrefix prefix → IsField day n → AreSpaces gap → NoOther (prefix ++ (day ++ (gap ++ rest)))
+rfc2822-no-other : (prefix day gap rest : List ℕ) (n : ℕ) → (prefix ≡ []) ⊎ IsDayPrefix prefix → IsField day n → AreSpaces gap
+    → NoOther (prefix ++ (day ++ (gap ++ rest)))
 rfc2822-no-other prefix day [] rest n p h s = absurd s
 rfc2822-no-other prefix day (c ∷ gap) rest n (inl none) h s =
     let text = day ++ (c ∷ (gap ++ rest)) in
@@ -275,7 +294,8 @@ rfc2822-no-other prefix day (c ∷ gap) rest n (inr named) h s =
 rfc2822-alone : (text : List ℕ) (answer : FamilyAnswer) → rfc2822_answer text ≡ Some answer → NoneFrom 3 text
 rfc2822-alone text answer e =
     let h = rfc2822-front text answer e in
-    let none = subst NoOther (sym h.whole) (rfc2822-no-other h.prefix h.day h.gap (h.month ++ h.rest) h.number h.is_prefix h.is_day h.is_gap) in
+    let none =
+    subst NoOther (sym h.whole) (rfc2822-no-other h.prefix h.day h.gap (h.month ++ h.rest) h.number h.is_prefix h.is_day h.is_gap) in
     let plain = no-plain text none.year in
     rw (plain.iso8601, plain.strict, none.day.gitoxide, none.day.default, none.epoch) refl
 
@@ -284,7 +304,9 @@ unfolding iso8601_answer iso8601_strict_answer skip_spaces skip_char
 short-alone text answer e =
     let a = (dates_spelled.short text answer).0 e in
     let plain = plain-first [] a.time text a.are in
-    let read : read_plain_date text ≡ Some (a.time.date, []) = ap read_plain_date (a.are.whole ∙ ap (λ (t : List ℕ). a.are.front ++ t) a.are.more) ∙ date-read a.are.front [] a.time.date a.are.is tt in
+    let read : read_plain_date text ≡ Some (a.time.date, []) =
+    ap read_plain_date (a.are.whole ∙ ap (λ (t : List ℕ). a.are.front ++ t) a.are.more)
+    ∙ date-read a.are.front [] a.time.date a.are.is tt in
     let iso8601 : iso8601_answer text ≡ None = rw read refl in
     let strict : iso8601_strict_answer text ≡ None = rw read refl in
     rw (plain.rfc2822, iso8601, strict, plain.gitoxide, plain.default, plain.epoch) refl
@@ -296,7 +318,8 @@ at-first rule text time e = grind (arith, went, after-taken)
 at-none : (rest : List ℕ) → NoneFrom 1 (at_sign ∷ rest)
 at-none rest = grind (arith, no-plain, no-year, no-day, no_weekday, no-rfc2822-first, no-epoch-byte)
 
-at-alone : (rule : OffsetRule) (text : List ℕ) (answer : FamilyAnswer) (found : Option Time) → at_time rule text ≡ found → option_map Absolute found ≡ Some answer → NoneFrom 1 text
+at-alone : (rule : OffsetRule) (text : List ℕ) (answer : FamilyAnswer) (found : Option Time) → at_time rule text ≡ found
+    → option_map Absolute found ≡ Some answer → NoneFrom 1 text
 at-alone rule text answer None h e = absurd cc
 at-alone rule text answer (Some time) h e =
     let first = at-first rule text time h in
@@ -305,7 +328,8 @@ at-alone rule text answer (Some time) h e =
 pub before-git-apart : (rule : OffsetRule) (text : List ℕ) → length (filter is_some (answers_before_git rule text)) ≤ 1
 before-git-apart rule text = at-most-one (answers_before_git rule text) alone
   where
-    alone : (n : ℕ) (answer : FamilyAnswer) → get_or (answers_before_git rule text) n None ≡ Some answer → filter is_some (drop (suc n) (answers_before_git rule text)) ≡ []
+    alone : (n : ℕ) (answer : FamilyAnswer) → get_or (answers_before_git rule text) n None ≡ Some answer
+        → filter is_some (drop (suc n) (answers_before_git rule text)) ≡ []
     alone zero answer e = at-alone rule text answer (at_time rule text) refl e
     alone (suc zero) answer e = short-alone text answer e
     alone (suc (suc zero)) answer e = rfc2822-alone text answer e

@@ -17,7 +17,7 @@ use Rattle.gix_date.specs.Text.Numbers.{int_value}
 use Rattle.gix_date.specs.Fields.Offsets.{offset_fields, offset_of}
 use Rattle.gix_date.specs.Families.Raw.{OffsetRule, raw_time_by, raw_offset_by}
 use Rattle.gix_date.specs.Text.SpaceWords.{space_words, first_words}
-use Rattle.gix_date.specs.declared.civil.DateFields.{DateFields}
+use Rattle.gix_date.specs.declared.clock.DateFields.{DateFields}
 use Rattle.gix_date.specs.declared.parsing.offset.OffsetFields.{OffsetFields}
 use Rattle.gix_date.specs.declared.time.Time.{Time}
 use Rattle.gix_date.proofs.Families.Apart.{mixed, int-digits}
@@ -64,7 +64,16 @@ compact-year (a ∷ b ∷ c ∷ e ∷ []) n m0 m1 d0 d1 mark rest h p q r s v d 
       more = b ∷ c ∷ e ∷ m0 ∷ m1 ∷ d0 ∷ d1 ∷ mark ∷ [];
       rest = rest;
       whole = refl;
-      visible = (digit_visible a h.0, (digit_visible b h.1, (digit_visible c h.2, (digit_visible e h.3, (digit_visible m0 p, (digit_visible m1 q, (digit_visible d0 r, (digit_visible d1 s, (v, tt)))))))));
+      visible = (
+        digit_visible a h.0,
+        (
+          digit_visible b h.1,
+          (
+            digit_visible c h.2,
+            (digit_visible e h.3, (digit_visible m0 p, (digit_visible m1 q, (digit_visible d0 r, (digit_visible d1 s, (v, tt)))))),
+          ),
+        ),
+      );
       digit = h.0;
       mixed = mixed (a ∷ b ∷ c ∷ e ∷ m0 ∷ m1 ∷ d0 ∷ d1 ∷ []) mark [] d;
     }
@@ -117,8 +126,10 @@ front-digits (c ∷ a) b h =
 pub number-no-front : (text other : List ℕ) → FirstNumber text → GitFront other → space_words text ≡ space_words other → ⊥
 number-no-front text other f g w =
     let b = first-begins g.first g.more g.rest g.visible in
-    let same : f.word ≡ g.first ∷ (g.more ++ b.rest) = same-first f.word (g.first ∷ (g.more ++ b.rest)) f.words b.words (sym f.is ∙ w ∙ ap space_words g.whole ∙ b.is) in
-    let digits = front-digits (g.first ∷ g.more) b.rest (int-digits g.first (g.more ++ b.rest) f.value g.digit (ap int_value (sym same) ∙ f.is_value)) in
+    let same : f.word ≡ g.first ∷ (g.more ++ b.rest) =
+    same-first f.word (g.first ∷ (g.more ++ b.rest)) f.words b.words (sym f.is ∙ w ∙ ap space_words g.whole ∙ b.is) in
+    let digits = front-digits (g.first ∷ g.more) b.rest
+    (int-digits g.first (g.more ++ b.rest) f.value g.digit (ap int_value (sym same) ∙ f.is_value)) in
     let clash : true ≡ false = sym digits ∙ g.mixed in
     cc
 

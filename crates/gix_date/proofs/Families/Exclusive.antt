@@ -1,6 +1,8 @@
 -- Which families hold texts of one another.
 use Rattle.std.proofs.Common.{rules}
-use Rattle.std.proofs.Common.{◌≡◌, ◌≢◌, ◌∙◌, ◌<◌, ◌≤◌, ℕ, ℤ, true, false, List, [], ◌∷◌, ◌++◌, length, filter, get_or, refl, ap, sym, subst, arith, append-nil, append_assoc, map, encode_utf8_all, Some, None, Option, is_some, option_map, inl, inr, ◌⊎◌, IsUtf8, zero, suc}
+use Rattle.std.proofs.Common.{◌≡◌, ◌≢◌, ◌∙◌, ◌<◌, ◌≤◌, ℕ, ℤ, true, false, List, [], ◌∷◌, ◌++◌, length, filter, get_or, refl, ap, sym, subst}
+use Rattle.std.proofs.Common.{arith, append-nil, append_assoc, map, encode_utf8_all, Some, None, Option, is_some, option_map, inl, inr, ◌⊎◌}
+use Rattle.std.proofs.Common.{IsUtf8, zero, suc}
 use Rattle.std.proofs.lemmas.Bool.{cases_order, and_parts as both}
 use Rattle.std.proofs.lemmas.Bool.Decides.{nat_tests}
 use Rattle.std.proofs.lemmas.Str.{IsUtf8-drop, IsCharBoundary-after_ascii, IsUtf8-from_ascii, chars-append, chars-IsAscii, encodes-IsAscii}
@@ -13,21 +15,26 @@ use Rattle.gix_date.specs.Fields.FieldTexts.{IsSign, IsYear, IsField, IsMonthNam
 use Rattle.gix_date.specs.Families.Answer.{FamilyAnswer, Absolute, Relative}
 use Rattle.gix_date.specs.Text.Characters.{at_sign, comma, minus, space, is_space}
 use Rattle.gix_date.specs.Families.Epoch.{at_time, epoch_time, utc_time}
-use Rattle.gix_date.specs.Families.Order.{Family, AtText, Short, Rfc2822, Iso8601, Iso8601Strict, Gitoxide, Default, BareEpoch, GitForm, RelativeText, RawText, families, family_answer, answers_before_git, first_family_by}
+use Rattle.gix_date.specs.Families.Order.{Family, AtText, Short, Rfc2822, Iso8601, Iso8601Strict, Gitoxide, Default, BareEpoch, GitForm}
+use Rattle.gix_date.specs.Families.Order.{RelativeText, RawText, families, family_answer, answers_before_git, first_family_by}
 use Rattle.gix_date.specs.Families.Laws.{AreExclusive, Holds, overlap}
 use Rattle.gix_date.specs.Text.Front.{skip_char}
-use Rattle.gix_date.specs.Git.Forms.{git_time, git_form, git_front, dotted_front, compact_front, flexible_front, read_marked_date, read_compact_date}
+use Rattle.gix_date.specs.Git.Forms.{git_time, git_form, git_front, dotted_front, compact_front, flexible_front, read_marked_date}
+use Rattle.gix_date.specs.Git.Forms.{read_compact_date}
 use Rattle.gix_date.specs.Text.Numbers.{int_value}
-use Rattle.gix_date.specs.Families.Patterns.{short_answer, rfc2822_answer, iso8601_answer, gitoxide_answer, default_answer, short_layout, iso8601_layout, gitoxide_layout, default_layout}
+use Rattle.gix_date.specs.Families.Patterns.{short_answer, rfc2822_answer, iso8601_answer, gitoxide_answer, default_answer, short_layout}
+use Rattle.gix_date.specs.Families.Patterns.{iso8601_layout, gitoxide_layout, default_layout}
 use Rattle.gix_date.specs.Fields.DateFields.{skip_weekday}
 use Rattle.gix_date.specs.Families.Raw.{OffsetRule, raw_time_by}
 use Rattle.gix_date.specs.Relative.Dates.{relative_date, RelativeDate}
 use Rattle.gix_date.specs.Text.SpaceWords.{space_words, runs}
 use Rattle.gix_date.specs.Fields.Layout.{LocalTime, DayName, BeginsWith}
 use Rattle.gix_date.specs.declared.time.Time.{Time}
-use Rattle.gix_date.proofs.Families.Apart.{at-first, before-git-apart, NoPlainDate, NoDayFirst, no-day, no_pair, no_pair_of, pair_read, one-no-pair}
+use Rattle.gix_date.proofs.Families.Apart.{at-first, before-git-apart, NoPlainDate, NoDayFirst, no-day, no_pair, no_pair_of, pair_read}
+use Rattle.gix_date.proofs.Families.Apart.{one-no-pair}
 use Rattle.gix_date.proofs.Text.AsciiCuts.{ascii-by, space_is_ascii}
-use Rattle.gix_date.proofs.Families.Disjoint.{are_disjoint, raw-words, quiet-raw, epoch-int, git-front, front-digits, letter_visible, digit_visible}
+use Rattle.gix_date.proofs.Families.Disjoint.{are_disjoint, raw-words, quiet-raw, epoch-int, git-front, front-digits, letter_visible}
+use Rattle.gix_date.proofs.Families.Disjoint.{digit_visible}
 use Rattle.gix_date.proofs.Fields.FieldsRead.{Begins, name-begins, letter-no-digit, year-read}
 use Rattle.gix_date.proofs.Fields.FieldsTaken.{went, after-taken, weekday-taken, none-unless, same-first}
 use Rattle.gix_date.proofs.Text.FirstWords.{AreVisible, visible_stays, are-ascii, first-begins, trimmed-words}
@@ -85,7 +92,8 @@ word-then x xs g gap rest v s =
     chars-append spaces rest (IsUtf8-from_ascii spaces b)
     ∙ ap (λ (t : List ℕ). t ++ chars rest) (chars-IsAscii spaces b) in
     let cut : runs (word ++ (spaces ++ chars rest)) ≡ word ∷ runs (chars rest) =
-    run_first x xs (spaces ++ chars rest) (none-white word v) (stops g (gap ++ chars rest) (space-white g s.0)) ∙ ap (λ (rs : List (List ℕ)). word ∷ rs) (runs_skip spaces (chars rest) (none-stay spaces all)) in
+    run_first x xs (spaces ++ chars rest) (none-white word v) (stops g (gap ++ chars rest) (space-white g s.0))
+    ∙ ap (λ (rs : List (List ℕ)). word ∷ rs) (runs_skip spaces (chars rest) (none-stay spaces all)) in
     ap (λ (cs : List ℕ). map encode_utf8_all (runs cs)) (read_word ∙ ap (λ (t : List ℕ). word ++ t) read_gap)
     ∙ ap (map encode_utf8_all) cut
     ∙ ap (λ (t : List ℕ). t ∷ map encode_utf8_all (runs (chars rest))) (encodes-IsAscii word a)
@@ -146,7 +154,13 @@ rfc2822-begins text answer a = let h = rfc2822-front text answer a in by h h.is_
     by h (inl none) = inr (h, h.whole ∙ ap (λ (p : List ℕ). p ++ (h.day ++ (h.gap ++ (h.month ++ h.rest)))) none)
     by h (inr named) =
         let more = h.day ++ (h.gap ++ (h.month ++ h.rest)) in
-        inl (named.name, comma ∷ (named.gap ++ more), h.whole ∙ ap (λ (p : List ℕ). p ++ more) named.whole ∙ append_assoc named.name (comma ∷ named.gap) more, name-begins named.name named.is_name.0)
+        inl (
+          named.name,
+          comma ∷ (named.gap ++ more),
+          h.whole ∙ ap (λ (p : List ℕ). p ++ more) named.whole
+              ∙ append_assoc named.name (comma ∷ named.gap) more,
+          name-begins named.name named.is_name.0,
+        )
 
 raw-no-rfc2822 : (rule : OffsetRule) (text : List ℕ) (t : Time) → raw_time_by rule text ≡ Some t
     → rfc2822_answer text ≡ None
@@ -180,11 +194,16 @@ short-no-git text answer e =
     let a = (dates_spelled.short text answer).0 e in
     let h = a.are.is in
     let split : text ≡ day_text h.year h.month h.day =
-    a.are.whole ∙ ap (λ (r : List ℕ). a.are.front ++ r) a.are.more ∙ append-nil a.are.front ∙ h.whole ∙ append_assoc h.year (minus ∷ h.month) (minus ∷ h.day) in
+    a.are.whole ∙ ap (λ (r : List ℕ). a.are.front ++ r) a.are.more ∙ append-nil a.are.front ∙ h.whole
+    ∙ append_assoc h.year (minus ∷ h.month) (minus ∷ h.day) in
     let visible : AreVisible (day_text h.year h.month h.day) =
-    visible-append h.year (minus ∷ (h.month ++ (minus ∷ h.day))) (digits-visible h.year (year-digits h.year a.time.date.year h.is_year))
-    (refl, visible-append h.month (minus ∷ h.day) (field-visible h.month a.time.date.month h.is_month) (refl, field-visible h.day a.time.date.day h.is_day)) in
-    ap git_time split ∙ ap git_form (trim-visible (day_text h.year h.month h.day) visible) ∙ day-no-form h.year h.month h.day a.time.date.year a.time.date.month a.time.date.day h.is_year h.is_month h.is_day
+    visible-append h.year (minus ∷ (h.month ++ (minus ∷ h.day))) (digits-visible h.year (year-digits h.year a.time.date.year h.is_year)) (
+      refl,
+      visible-append h.month (minus ∷ h.day) (field-visible h.month a.time.date.month h.is_month)
+          (refl, field-visible h.day a.time.date.day h.is_day),
+    ) in
+    ap git_time split ∙ ap git_form (trim-visible (day_text h.year h.month h.day) visible)
+    ∙ day-no-form h.year h.month h.day a.time.date.year a.time.date.month a.time.date.day h.is_year h.is_month h.is_day
 
 -- A mail date is no Git text: its first word is a day of the month, or begins with a letter.
 pub git-no-day : (day gap rest : List ℕ) (n : ℕ) (t : Time) → IsUtf8 (day ++ (gap ++ rest)) → IsField day n → AreSpaces gap
@@ -252,10 +271,13 @@ is-quiet : (rule : OffsetRule) (family : Family) (text : List ℕ) → IsUtf8 te
 is-quiet rule AtText text u n o h = let t = absolute (at_time rule text) h in quiet-at rule text t.0 u t.1
 is-quiet rule Short text u n o h = let a = answered rule Short text h in quiet-dated _ _ short_layout tt dates_spelled.short text a.0 a.1
 is-quiet rule Rfc2822 text u n o h = let a = answered rule Rfc2822 text h in quiet-rfc2822 text a.0 a.1
-is-quiet rule Iso8601 text u n o h = let a = answered rule Iso8601 text h in quiet-dated _ _ iso8601_layout tt dates_spelled.iso8601 text a.0 a.1
+is-quiet rule Iso8601 text u n o h = let a = answered rule Iso8601 text h in
+    quiet-dated _ _ iso8601_layout tt dates_spelled.iso8601 text a.0 a.1
 is-quiet rule Iso8601Strict text u n o h = let a = answered rule Iso8601Strict text h in quiet-strict text a.0 a.1
-is-quiet rule Gitoxide text u n o h = let a = answered rule Gitoxide text h in quiet-dated _ _ gitoxide_layout tt dates_spelled.gitoxide text a.0 a.1
-is-quiet rule Default text u n o h = let a = answered rule Default text h in quiet-dated _ _ default_layout tt dates_spelled.default text a.0 a.1
+is-quiet rule Gitoxide text u n o h = let a = answered rule Gitoxide text h in
+    quiet-dated _ _ gitoxide_layout tt dates_spelled.gitoxide text a.0 a.1
+is-quiet rule Default text u n o h = let a = answered rule Default text h in
+    quiet-dated _ _ default_layout tt dates_spelled.default text a.0 a.1
 is-quiet rule BareEpoch text u n o h = let t = absolute (epoch_time text) h in let i = epoch-int text t.0 t.1 in quiet-int text i.0 i.1
 is-quiet rule GitForm text u n o h = absurd cc
 is-quiet rule RelativeText text u n o h = absurd (n refl)
@@ -271,8 +293,10 @@ git-clash : (rule : OffsetRule) (family : Family) (text : List ℕ) → IsUtf8 t
 git-clash rule AtText text u n o h = grind (arith, absolute, at-first, no-git-byte)
 git-clash rule Short text u n o h = let a = answered rule Short text h in short-no-git text a.0 a.1
 git-clash rule Rfc2822 text u n o h = let a = answered rule Rfc2822 text h in rfc2822-no-git text a.0 u a.1
-git-clash rule Gitoxide text u n o h = let a = answered rule Gitoxide text h in let d = (dates_spelled.gitoxide text a.0).0 a.1 in named-no-git d.time text u d.are
-git-clash rule Default text u n o h = let a = answered rule Default text h in let d = (dates_spelled.default text a.0).0 a.1 in named-no-git d.time text u d.are
+git-clash rule Gitoxide text u n o h = let a = answered rule Gitoxide text h in let d = (dates_spelled.gitoxide text a.0).0 a.1 in
+    named-no-git d.time text u d.are
+git-clash rule Default text u n o h = let a = answered rule Default text h in let d = (dates_spelled.default text a.0).0 a.1 in
+    named-no-git d.time text u d.are
 git-clash rule BareEpoch text u n o h = let t = absolute (epoch_time text) h in (are_disjoint rule text u).epoch_git t.0 t.1
 git-clash rule GitForm text u n o h = absurd (n refl)
 git-clash rule RawText text u n o h = let t = absolute (raw_time_by rule text) h in (are_disjoint rule text u).raw_git t.0 t.1
@@ -300,7 +324,8 @@ raw-alone rule Iso8601 text t u n e h = none-held (iso8601_answer text) h (raw-n
 raw-alone rule Iso8601Strict text t u n e h = grind (arith, none-held, raw-no-plain)
 raw-alone rule Gitoxide text t u n e h = none-held (gitoxide_answer text) h (raw-no-named rule text t e).gitoxide
 raw-alone rule Default text t u n e h = none-held (default_answer text) h (raw-no-named rule text t e).default
-raw-alone rule BareEpoch text t u n e h = none-mapped (λ (t : Time). Absolute t) (epoch_time text) h ((are_disjoint rule text u).raw_epoch t e)
+raw-alone rule BareEpoch text t u n e h =
+    none-mapped (λ (t : Time). Absolute t) (epoch_time text) h ((are_disjoint rule text u).raw_epoch t e)
 raw-alone rule GitForm text t u n e h = none-mapped (λ (t : Time). Absolute t) (git_time text) h ((are_disjoint rule text u).raw_git t e)
 raw-alone rule RelativeText text t u n e h = quiet-clash rule text u (quiet-raw rule text t u e) h
 raw-alone rule RawText text t u n e h = absurd (n refl)
@@ -388,9 +413,23 @@ raw-first : (rule : OffsetRule) (text : List ℕ) → IsUtf8 text → Holds rule
     → first_family_by rule text ≡ family_answer rule RawText text
 unfolding first_family_by
 raw-first rule text u h =
-    let none : (b : Family) → (place RawText == place b) ≡ false → overlap RawText b ≡ false → family_answer rule b text ≡ None = λ b d o. are_exclusive rule text u RawText b (differ RawText b d) o h in
+    let none : (b : Family) → (place RawText == place b) ≡ false → overlap RawText b ≡ false
+    → family_answer rule b text ≡ None = λ b d o. are_exclusive rule text u RawText b (differ RawText b d) o h in
     let a = answered rule RawText text h in
-    rw (none AtText refl refl, none Short refl refl, none Rfc2822 refl refl, none Iso8601 refl refl, none Iso8601Strict refl refl, none Gitoxide refl refl, none Default refl refl, none BareEpoch refl refl, none GitForm refl refl, none RelativeText refl refl, a.1) refl
+    rw (
+      none AtText refl refl,
+      none Short refl refl,
+      none Rfc2822 refl refl,
+      none Iso8601 refl refl,
+      none Iso8601Strict refl refl,
+      none Gitoxide refl refl,
+      none Default refl refl,
+      none BareEpoch refl refl,
+      none GitForm refl refl,
+      none RelativeText refl refl,
+      a.1,
+    )
+    refl
 
 pub alone-first : (rule : OffsetRule) (family : Family) (text : List ℕ) → IsUtf8 text → family ≢ GitForm
     → family ≢ RelativeText → Holds rule family text → first_family_by rule text ≡ family_answer rule family text
@@ -406,5 +445,6 @@ raw-first-family rule text t u e = grind (arith, raw-first)
 pub epoch-first-family : (rule : OffsetRule) (text : List ℕ) (t : Time) → IsUtf8 text → epoch_time text ≡ Some t
     → first_family_by rule text ≡ Some (Absolute t)
 epoch-first-family rule text t u e =
-    alone-first rule BareEpoch text u (differ BareEpoch GitForm refl) (differ BareEpoch RelativeText refl) (ap (λ (r : Option Time). is_some (option_map Absolute r)) e)
+    alone-first rule BareEpoch text u (differ BareEpoch GitForm refl) (differ BareEpoch RelativeText refl)
+    (ap (λ (r : Option Time). is_some (option_map Absolute r)) e)
     ∙ ap (option_map Absolute) e

@@ -1,6 +1,7 @@
 -- The first family that holds a text is one of its shape's: no other family holds a text of that shape.
 use Rattle.std.proofs.Common.{rules}
-use Rattle.std.proofs.Common.{◌≡◌, ◌∙◌, ℕ, ℤ, Bool, true, false, cond, List, [], ◌∷◌, ◌++◌, drop, refl, ap, sym, subst, arith, Option, Some, None, is_some, inl, inr, ◌⊎◌, IsUtf8}
+use Rattle.std.proofs.Common.{◌≡◌, ◌∙◌, ℕ, ℤ, Bool, true, false, cond, List, [], ◌∷◌, ◌++◌, drop, refl, ap, sym, subst, arith, Option, Some}
+use Rattle.std.proofs.Common.{None, is_some, inl, inr, ◌⊎◌, IsUtf8}
 use Rattle.std.proofs.lemmas.Bool.{and_parts as both}
 use Rattle.std.proofs.lemmas.Bool.Decides.{nat_tests}
 use Rattle.std.specs.Char.{is_ascii_digit, is_ascii_alphabetic}
@@ -8,7 +9,8 @@ use Rattle.std.specs.Prelude.{◌==◌, ◌&&◌, ◌||◌, if◌then◌else◌}
 use Rattle.std.specs.Int.Signed.{le_z}
 use Rattle.gix_date.specs.Families.Answer.{Absolute}
 use Rattle.gix_date.specs.Text.Characters.{at_sign, comma, minus, dot, space, is_space, letter_t}
-use Rattle.gix_date.specs.Families.Order.{AtText, Short, Rfc2822, Iso8601, Iso8601Strict, Gitoxide, Default, BareEpoch, GitForm, RelativeText, RawText, first_family_by}
+use Rattle.gix_date.specs.Families.Order.{AtText, Short, Rfc2822, Iso8601, Iso8601Strict, Gitoxide, Default, BareEpoch, GitForm}
+use Rattle.gix_date.specs.Families.Order.{RelativeText, RawText, first_family_by}
 use Rattle.gix_date.specs.Fields.DateFields.{read_name, read_plain_date, skip_day_name, skip_weekday}
 use Rattle.gix_date.specs.Fields.FieldTexts.{IsField, IsYear, AreSpaces, IsMonthName}
 use Rattle.gix_date.specs.Text.Front.{skip_char}
@@ -17,10 +19,14 @@ use Rattle.gix_date.specs.Families.Patterns.{rfc2822_answer, gitoxide_answer, de
 use Rattle.gix_date.specs.Families.Epoch.{at_time, epoch_time, min_bare_epoch, utc_time}
 use Rattle.gix_date.specs.Git.Forms.{git_time}
 use Rattle.gix_date.specs.Families.Raw.{OffsetRule, raw_time_by}
-use Rattle.gix_date.specs.Families.Shapes.{are_two_digits, are_four_digits, begins_with_at, begins_with_letter, begins_with_year, begins_with_dashed_day, begins_with_dotted_day, begins_with_compact_day, begins_with_count, letter_shape, shape_of, shape_families, first_among, IsDispatched, row_families, IsInItsRow}
+use Rattle.gix_date.specs.Families.Shapes.{are_two_digits, are_four_digits, begins_with_at, begins_with_letter, begins_with_year}
+use Rattle.gix_date.specs.Families.Shapes.{begins_with_dashed_day, begins_with_dotted_day, begins_with_compact_day, begins_with_count}
+use Rattle.gix_date.specs.Families.Shapes.{letter_shape, shape_of, shape_families, first_among, IsDispatched, row_families, IsInItsRow}
 use Rattle.gix_date.specs.declared.parsing.shape.Shape.TheVariants.{AtSign, Rfc2822Day, NamedDay, Word, WholeNumber}
-use Rattle.gix_date.proofs.Families.Apart.{NoPlainDate, NoDayFirst, no-day, no-field, no-rfc2822-first, no-rfc2822-year, no-plain, no-spaces, no_weekday, no-year, digit-no-minus, no-epoch}
-use Rattle.gix_date.proofs.Families.Disjoint.{GitFront, year-front, compact-year, raw-words, int-first, no-git, letter_visible, number-no-front}
+use Rattle.gix_date.proofs.Families.Apart.{NoPlainDate, NoDayFirst, no-day, no-field, no-rfc2822-first, no-rfc2822-year, no-plain}
+use Rattle.gix_date.proofs.Families.Apart.{no-spaces, no_weekday, no-year, digit-no-minus, no-epoch}
+use Rattle.gix_date.proofs.Families.Disjoint.{GitFront, year-front, compact-year, raw-words, int-first, no-git, letter_visible}
+use Rattle.gix_date.proofs.Families.Disjoint.{number-no-front}
 use Rattle.gix_date.proofs.Families.Exclusive.{rfc2822-begins, git-no-day}
 use Rattle.gix_date.proofs.Fields.FieldsRead.{Begins, BeginsNot, begins-append, digit-no-letter, letter-no-digit}
 use Rattle.gix_date.proofs.Text.FirstWords.{is_visible}
@@ -64,7 +70,8 @@ record NoNumber (rule : OffsetRule) (text : List ℕ) : Type 0 where
   pub git : git_time text ≡ None
   pub raw : raw_time_by rule text ≡ None
 
-no-number : (rule : OffsetRule) (c : ℕ) (rest : List ℕ) → IsUtf8 (c ∷ rest) → is_visible c ≡ true → is_number_byte c ≡ false → is_ascii_digit c ≡ false
+no-number : (rule : OffsetRule) (c : ℕ) (rest : List ℕ) → IsUtf8 (c ∷ rest) → is_visible c ≡ true → is_number_byte c ≡ false
+    → is_ascii_digit c ≡ false
     → NoNumber rule (c ∷ rest)
 no-number rule c rest u v n d = grind (arith, no-epoch, none-unless, int-no-byte, no-git-byte, no-raw-byte)
 
@@ -94,10 +101,12 @@ record Lettered (rule : OffsetRule) (text : List ℕ) : Type 0 where
   pub field : read_field text ≡ None
   pub number : NoNumber rule text
 
-lettered : (rule : OffsetRule) (text : List ℕ) → IsUtf8 text → begins_with_at text ≡ false → begins_with_letter text ≡ true → Lettered rule text
+lettered : (rule : OffsetRule) (text : List ℕ) → IsUtf8 text → begins_with_at text ≡ false → begins_with_letter text ≡ true
+    → Lettered rule text
 unfolding begins_with_letter
 lettered rule [] u n h = absurd cc
-lettered rule (c ∷ rest) u n h = search (rules, letter-no-digit, no-at, no-plain, no-year, no-field, no-number, letter_visible, letter-no-number)
+lettered rule (c ∷ rest) u n h =
+    search (rules, letter-no-digit, no-at, no-plain, no-year, no-field, no-number, letter_visible, letter-no-number)
 
 rfc2822-dispatched : (rule : OffsetRule) (text : List ℕ) → Lettered rule text → BeginsNot is_space (drop 3 text)
     → first_family_by rule text ≡ first_among rule (shape_families Rfc2822Day) text
@@ -109,7 +118,8 @@ named-dispatched : (rule : OffsetRule) (text : List ℕ) → Lettered rule text 
 unfolding first_family_by
 named-dispatched rule text l h = grind (arith, no-comma)
 
-word-dispatched : (rule : OffsetRule) (text : List ℕ) → Lettered rule text → skip_char comma (drop 3 text) ≡ None → BeginsNot is_space (drop 3 text)
+word-dispatched : (rule : OffsetRule) (text : List ℕ) → Lettered rule text → skip_char comma (drop 3 text) ≡ None
+    → BeginsNot is_space (drop 3 text)
     → first_family_by rule text ≡ first_among rule (shape_families Word) text
 unfolding first_family_by
 word-dispatched rule text l h k = grind (arith, no-space, no-comma)
@@ -136,7 +146,8 @@ four-are : (a b c d : ℕ) → are_four_digits a b c d ≡ true
     → (is_ascii_digit a ≡ true) × (is_ascii_digit b ≡ true) × (is_ascii_digit c ≡ true) × (is_ascii_digit d ≡ true)
 four-are a b c d h = grind (arith, both)
 
-after-mark : (rule : OffsetRule) (a b c d mark : ℕ) (rest : List ℕ) → are_four_digits a b c d ≡ true → is_visible mark ≡ true → is_ascii_digit mark ≡ false
+after-mark : (rule : OffsetRule) (a b c d mark : ℕ) (rest : List ℕ) → are_four_digits a b c d ≡ true → is_visible mark ≡ true
+    → is_ascii_digit mark ≡ false
     → AfterYear rule (a ∷ b ∷ c ∷ d ∷ mark ∷ rest)
 after-mark rule a b c d mark rest h v n =
     let k = four-are a b c d h in
@@ -179,7 +190,8 @@ dotted-day rule (a ∷ b ∷ c ∷ d ∷ mark ∷ e ∷ f ∷ second ∷ rest) h
     let some = both (are_four_digits a b c d && mark == dot) (are_two_digits e f) all.0 in
     let front = both (are_four_digits a b c d) (mark == dot) some.0 in
     record {
-      after = after-mark rule a b c d mark (e ∷ f ∷ second ∷ rest) front.0 (is-visible mark dot front.1 refl) (is-no-digit mark dot front.1 refl);
+      after = after-mark rule a b c d mark (e ∷ f ∷ second ∷ rest) front.0 (is-visible mark dot front.1 refl)
+          (is-no-digit mark dot front.1 refl);
       first = day-first a b c d mark (e ∷ f ∷ second ∷ rest) false front.0 (grind (arith, nat_tests, front.1));
     }
 dotted-day rule text h = absurd cc
@@ -195,7 +207,8 @@ compact-day rule (a ∷ b ∷ c ∷ d ∷ m0 ∷ m1 ∷ d0 ∷ d1 ∷ mark ∷ r
     let y : IsYear year _ = (k.0, k.1, k.2, k.3, refl) in
     record {
       after = after-year rule year (m0 ∷ m1 ∷ d0 ∷ d1 ∷ mark ∷ rest) _ y
-          (compact-year year _ m0 m1 d0 d1 mark rest y more.0 more.1 more.2 more.3 (is-visible mark letter_t all.1 refl) (is-no-digit mark letter_t all.1 refl));
+          (compact-year year _ m0 m1 d0 d1 mark rest y more.0 more.1 more.2 more.3 (is-visible mark letter_t all.1 refl)
+          (is-no-digit mark letter_t all.1 refl));
       first = day-first a b c d m0 (m1 ∷ d0 ∷ d1 ∷ mark ∷ rest) false front.0 (digit-no-minus m0 more.0);
     }
 compact-day rule text h = absurd cc
@@ -231,7 +244,8 @@ record CountFirst (text : List ℕ) : Type 0 where
   pub git : git_time text ≡ None
   pub int : int_value text ≡ None
 
-count-by : (count gap rest : List ℕ) (n : ℕ) → IsUtf8 (count ++ (gap ++ rest)) → IsField count n → AreSpaces gap → CountFirst (count ++ (gap ++ rest))
+count-by : (count gap rest : List ℕ) (n : ℕ) → IsUtf8 (count ++ (gap ++ rest)) → IsField count n → AreSpaces gap
+    → CountFirst (count ++ (gap ++ rest))
 count-by count gap rest n u f s = grind (arith, none-unless, git-no-day, int-no-gap)
 
 count-first : (text : List ℕ) → IsUtf8 text → begins_with_count text ≡ true → CountFirst text
@@ -240,9 +254,11 @@ count-first (a ∷ b ∷ c ∷ rest) u h =
     let front = both (is_ascii_digit a) (b == space || is_ascii_digit b && c == space) h in
     by (b == space) refl front.0 front.1
   where
-    by : (s : Bool) → (b == space) ≡ s → is_ascii_digit a ≡ true → (s || is_ascii_digit b && c == space) ≡ true → CountFirst (a ∷ b ∷ c ∷ rest)
+    by : (s : Bool) → (b == space) ≡ s → is_ascii_digit a ≡ true → (s || is_ascii_digit b && c == space) ≡ true
+        → CountFirst (a ∷ b ∷ c ∷ rest)
     by true g d k = count-by (a ∷ []) (b ∷ []) (c ∷ rest) _ u (d, refl) (g, refl)
-    by false g d k = let two = both (is_ascii_digit b) (c == space) k in count-by (a ∷ b ∷ []) (c ∷ []) rest _ u (d, two.0, refl) (two.1, refl)
+    by false g d k = let two = both (is_ascii_digit b) (c == space) k in
+        count-by (a ∷ b ∷ []) (c ∷ []) rest _ u (d, two.0, refl) (two.1, refl)
 count-first text u h = absurd cc
 
 count-so : (day gap month rest : List ℕ) (n m : ℕ) → IsField day n → AreSpaces gap → IsMonthName month m
@@ -285,12 +301,37 @@ int-dispatched rule text n u e =
     let rfc2822 = no-rfc2822 text letter (no-count text n u e (begins_with_count text) refl) in
     let dates = no-plain-by text (none-unless (read_plain_date text) (λ found h. int-no-front text n e (plain-front text found h))) in
     let git : git_time text ≡ None = none-unless (git_time text) (λ t h. no-git text u (int-first text n e) t h) in
-    rw (no-at rule text (number-no-at text bytes), dates.short, rfc2822, dates.iso8601, dates.strict, names.gitoxide, names.default, git, no-relative text u (quiet-int text n e), int-no-raw rule text n e) refl
+    rw (
+      no-at rule text (number-no-at text bytes),
+      dates.short,
+      rfc2822,
+      dates.iso8601,
+      dates.strict,
+      names.gitoxide,
+      names.default,
+      git,
+      no-relative text u (quiet-int text n e),
+      int-no-raw rule text n e,
+    ) refl
 
 -- Each shape, by the tests of `shape_of` in their order.
 pub is_dispatched : (rule : OffsetRule) (text : List ℕ) → IsUtf8 text → IsDispatched rule text
 unfolding shape_of first_family_by
-is_dispatched rule text u = grind (arith, at-dispatched, letter-dispatched, lettered, no-names, dashed-after, no-at, no-dates, git-day, count-first, no-epoch, int-dispatched, no-rfc2822)
+is_dispatched rule text u = grind (
+  arith,
+  at-dispatched,
+  letter-dispatched,
+  lettered,
+  no-names,
+  dashed-after,
+  no-at,
+  no-dates,
+  git-day,
+  count-first,
+  no-epoch,
+  int-dispatched,
+  no-rfc2822,
+)
 
 -- The seven rows, by their tests.
 dashed-first : (text : List ℕ) → begins_with_dashed_day text ≡ true → DayFirst true text
@@ -311,7 +352,8 @@ git-day-row rule text ea day = grind (arith, no-names, no-dates, no-at)
 pub is_in_its_row : (rule : OffsetRule) (text : List ℕ) → IsUtf8 text → IsInItsRow rule text
 unfolding row_families first_family_by
 is_in_its_row rule text u =
-    by (begins_with_at text) (int_value text) (begins_with_dashed_day text) (begins_with_dotted_day text) (begins_with_compact_day text) (begins_with_letter text) refl refl refl refl refl refl
+    by (begins_with_at text) (int_value text) (begins_with_dashed_day text) (begins_with_dotted_day text) (begins_with_compact_day text)
+    (begins_with_letter text) refl refl refl refl refl refl
   where
     by : (a : Bool) (i : Option ℤ) (s d k l : Bool) → begins_with_at text ≡ a → int_value text ≡ i → begins_with_dashed_day text ≡ s
         → begins_with_dotted_day text ≡ d → begins_with_compact_day text ≡ k → begins_with_letter text ≡ l

@@ -1,5 +1,7 @@
 -- Headers of two numbers, with one space between them.
-use Rattle.std.proofs.Common.{◌≡◌, ◌∙◌, ◌+◌, ◌<◌, ℕ, ℤ, Bool, true, false, List, [], ◌∷◌, ◌++◌, map, length, refl, ap, sym, subst, Some, None, append-nil, arith, IsAscii, inl, inr, ◌⊎◌, Option, option_map, get_or, take, drop, take-append-drop, drop-cons, add-one}
+use Rattle.std.proofs.Common.{◌≡◌, ◌∙◌, ◌+◌, ◌<◌, ℕ, ℤ, Bool, true, false, List, [], ◌∷◌, ◌++◌, map, length, refl, ap, sym, subst, Some}
+use Rattle.std.proofs.Common.{None, append-nil, arith, IsAscii, inl, inr, ◌⊎◌, Option, option_map, get_or, take, drop, take-append-drop}
+use Rattle.std.proofs.Common.{drop-cons, add-one}
 use Rattle.std.proofs.lemmas.Option.{same_Some as same_some, cond_some as guard}
 use Rattle.std.proofs.lemmas.Bool.{and_parts as both, or_from as neither}
 use Rattle.std.proofs.lemmas.Bool.Decides.{nat_tests}
@@ -43,18 +45,21 @@ no_white_space : (t : List ℕ) → AreNumberBytes t → NonePass is_whitespace 
 no_white_space [] h = tt
 no_white_space (c ∷ t) h = (grind (arith, nat_tests, h.0), no_white_space t h.1)
 
-two_runs : (x y : ℕ) (xs ys : List ℕ) → NonePass is_whitespace (x ∷ xs) → NonePass is_whitespace (y ∷ ys) → runs ((x ∷ xs) ++ (space ∷ (y ∷ ys))) ≡ (x ∷ xs) ∷ (y ∷ ys) ∷ []
+two_runs : (x y : ℕ) (xs ys : List ℕ) → NonePass is_whitespace (x ∷ xs) → NonePass is_whitespace (y ∷ ys)
+    → runs ((x ∷ xs) ++ (space ∷ (y ∷ ys))) ≡ (x ∷ xs) ∷ (y ∷ ys) ∷ []
 two_runs x y xs ys h k =
     run_first x xs (space ∷ (y ∷ ys)) h (stops space (y ∷ ys) refl)
     ∙ ap (λ rs. (x ∷ xs) ∷ rs) (runs_skip (space ∷ []) (y ∷ ys) (refl, tt) ∙ ap runs (sym (append-nil (y ∷ ys))) ∙ run_first y ys [] k ends)
 
 -- the words of two numbers with a space between them
-pub two-words : (x y : ℕ) (xs ys : List ℕ) → AreNumberBytes (x ∷ xs) → AreNumberBytes (y ∷ ys) → space_words ((x ∷ xs) ++ (space ∷ (y ∷ ys))) ≡ (x ∷ xs) ∷ (y ∷ ys) ∷ []
+pub two-words : (x y : ℕ) (xs ys : List ℕ) → AreNumberBytes (x ∷ xs) → AreNumberBytes (y ∷ ys)
+    → space_words ((x ∷ xs) ++ (space ∷ (y ∷ ys))) ≡ (x ∷ xs) ∷ (y ∷ ys) ∷ []
 unfolding space_words
 two-words x y xs ys h k =
     let a = are_ascii (x ∷ xs) h in
     let b = are_ascii (y ∷ ys) k in
-    let whole : IsAscii ((x ∷ xs) ++ (space ∷ (y ∷ ys))) = IsAscii-append (x ∷ xs) (space ∷ (y ∷ ys)) a (IsAscii-cons space (y ∷ ys) (omega arith) b) in
+    let whole : IsAscii ((x ∷ xs) ++ (space ∷ (y ∷ ys))) =
+    IsAscii-append (x ∷ xs) (space ∷ (y ∷ ys)) a (IsAscii-cons space (y ∷ ys) (omega arith) b) in
     ap (λ cs. map encode_utf8_all (runs cs)) (chars-IsAscii ((x ∷ xs) ++ (space ∷ (y ∷ ys))) whole)
     ∙ ap (map encode_utf8_all) (two_runs x y xs ys (no_white_space (x ∷ xs) h) (no_white_space (y ∷ ys) k))
     ∙ rw (encodes-IsAscii (x ∷ xs) a, encodes-IsAscii (y ∷ ys) b) refl
@@ -68,7 +73,8 @@ digits_are (c ∷ t) h =
     let parts = both (is_ascii_digit c) (all_ascii_digits t) h in
     (digit_is c parts.0, digits_are t parts.1)
 
-after_sign : (c : ℕ) (t : List ℕ) (p q : Bool) → (c == minus) ≡ p → (c == plus) ≡ q → all_ascii_digits (without_leading_sign (c ∷ t)) ≡ true → AreNumberBytes (c ∷ t)
+after_sign : (c : ℕ) (t : List ℕ) (p q : Bool) → (c == minus) ≡ p → (c == plus) ≡ q → all_ascii_digits (without_leading_sign (c ∷ t)) ≡ true
+    → AreNumberBytes (c ∷ t)
 after_sign c t true q e f h = (grind (arith, nat_tests, e), digits_are t (rw e at h))
 after_sign c t false true e f h = (grind (arith, nat_tests, f), digits_are t (rw (e, f) at h))
 after_sign c t false false e f h = digits_are (c ∷ t) (rw (e, f) at h)
@@ -101,7 +107,8 @@ pub record TookSign (x : List ℕ) (s : Sign) (rest : List ℕ) : Type 0 where
   pub whole : x ≡ mark ∷ rest
 
 sign_from : (x : List ℕ) (a b : Option (List ℕ)) (s : Sign) (rest : List ℕ) → skip_char plus x ≡ a → skip_char minus x ≡ b
-    → option_or (option_map {U = Sign × List ℕ} (λ r. (Plus, r)) a) (option_map {U = Sign × List ℕ} (λ r. (Minus, r)) b) ≡ Some (s, rest) → TookSign x s rest
+    → option_or (option_map {U = Sign × List ℕ} (λ r. (Plus, r)) a) (option_map {U = Sign × List ℕ} (λ r. (Minus, r)) b) ≡ Some (s, rest)
+    → TookSign x s rest
 sign_from x (Some r) b s rest e f h = grind (arith, after-taken)
 sign_from x None (Some r) s rest e f h = grind (arith, after-taken)
 sign_from x None None s rest e f h = absurd cc
@@ -121,7 +128,9 @@ pub record TookLast (x : List ℕ) (seconds : Option ℕ) : Type 0 where
   pub digits : all_ascii_digits x ≡ true
   pub is : ((x ≡ []) × (seconds ≡ None)) ⊎ ((n : ℕ) × IsPair x n × (seconds ≡ Some n))
 
-last_from : (a b : ℕ) (p q : Bool) (seconds : Option ℕ) → is_ascii_digit a ≡ p → is_ascii_digit b ≡ q → option_map {U = Option ℕ} (λ n. Some n) (cond (p && q) (Some (10 * (a - 48) + (b - 48))) None) ≡ Some seconds → TookLast (a ∷ b ∷ []) seconds
+last_from : (a b : ℕ) (p q : Bool) (seconds : Option ℕ) → is_ascii_digit a ≡ p → is_ascii_digit b ≡ q
+    → option_map {U = Option ℕ} (λ n. Some n) (cond (p && q) (Some (10 * (a - 48) + (b - 48))) None) ≡ Some seconds
+    → TookLast (a ∷ b ∷ []) seconds
 last_from a b true true seconds e f h = grind (arith, digit_is, same_some)
 last_from a b p q seconds e f h = absurd cc
 
@@ -164,8 +173,11 @@ offset-by gap IsLast x after_sign after_hours rest last f a b e c d = grind (ari
 pub offset-taken : (x : List ℕ) (f : OffsetFields) → offset_fields x ≡ Some f → IsOffsetText x f
 unfolding offset_fields
 offset-taken x f e =
-    let sign = went (read_sign x) (λ sign. read_two_digits sign.1 >>= λ h. read_two_digits h.1 >>= λ m. last_pair m.1 >>= λ s. Some (fields_at sign.0 h.0 m.0 s)) f e in
-    let hours = went (read_two_digits sign.0.1) (λ h. read_two_digits h.1 >>= λ m. last_pair m.1 >>= λ s. Some (fields_at sign.0.0 h.0 m.0 s)) f sign.2 in
+    let sign = went (read_sign x)
+    (λ sign. read_two_digits sign.1 >>= λ h. read_two_digits h.1 >>= λ m. last_pair m.1 >>= λ s. Some (fields_at sign.0 h.0 m.0 s)) f
+    e in
+    let hours = went (read_two_digits sign.0.1)
+    (λ h. read_two_digits h.1 >>= λ m. last_pair m.1 >>= λ s. Some (fields_at sign.0.0 h.0 m.0 s)) f sign.2 in
     let minutes = went (read_two_digits hours.0.1) (λ m. last_pair m.1 >>= λ s. Some (fields_at sign.0.0 hours.0.0 m.0 s)) f hours.2 in
     let seconds = went (last_pair minutes.0.1) (λ s. Some (fields_at sign.0.0 hours.0.0 minutes.0.0 s)) f minutes.2 in
     let found : fields_at sign.0.0 hours.0.0 minutes.0.0 seconds.0 ≡ f = same_some _ f seconds.2 in
@@ -184,45 +196,63 @@ sign_passes p c s (inr e) h k = rw e.0 k
 pub offset-number : (x : List ℕ) (f : OffsetFields) → offset_fields x ≡ Some f → IsNumber x
 offset-number x f e =
     let o = offset-taken x f e in
-    record { first = o.mark; rest = o.h0 ∷ o.h1 ∷ o.m0 ∷ o.m1 ∷ o.last; whole = o.whole; bytes = (sign_passes is_number_byte o.mark f.sign o.is_mark refl refl, (digit_is o.h0 o.is_h0, (digit_is o.h1 o.is_h1, (digit_is o.m0 o.is_m0, (digit_is o.m1 o.is_m1, o.is_last.bytes))))) }
+    record {
+      first = o.mark;
+      rest = o.h0 ∷ o.h1 ∷ o.m0 ∷ o.m1 ∷ o.last;
+      whole = o.whole;
+      bytes = (
+        sign_passes is_number_byte o.mark f.sign o.is_mark refl refl,
+        (digit_is o.h0 o.is_h0, (digit_is o.h1 o.is_h1, (digit_is o.m0 o.is_m0, (digit_is o.m1 o.is_m1, o.is_last.bytes)))),
+      );
+    }
 
 pub no_colon : (t : List ℕ) → AreNumberBytes t → has_colon t ≡ false
 no_colon [] h = refl
 no_colon (c ∷ t) h = neither (is_colon c) (has_colon t) (grind (arith, nat_tests, h.0)) (no_colon t h.1)
 
-pub by_words : (text a b : List ℕ) (t : Time) → has_colon text ≡ false → space_words text ≡ a ∷ b ∷ [] → time_of_words (a ∷ b ∷ []) ≡ Some t → header_time text ≡ Some t
+pub by_words : (text a b : List ℕ) (t : Time) → has_colon text ≡ false → space_words text ≡ a ∷ b ∷ [] → time_of_words (a ∷ b ∷ []) ≡ Some t
+    → header_time text ≡ Some t
 unfolding header_time
 by_words text a b t c w e = rw (c, w) e
 
-pub said : (a b : List ℕ) (n : ℤ) (f : OffsetFields) → int_value a ≡ Some n → offset_fields b ≡ Some f → time_of_words (a ∷ b ∷ []) ≡ Some (record { seconds = n; offset = offset_of f })
+pub said : (a b : List ℕ) (n : ℤ) (f : OffsetFields) → int_value a ≡ Some n → offset_fields b ≡ Some f
+    → time_of_words (a ∷ b ∷ []) ≡ Some (record { seconds = n; offset = offset_of f })
 unfolding time_of_words header_seconds header_offset
 said a b n f e h = rw (e, h) refl
 
-plain_of : (front zone : List ℕ) (n : ℤ) (f : OffsetFields) → IsNumber front → IsNumber zone → int_value front ≡ Some n → offset_fields zone ≡ Some f → header_time (front ++ (space ∷ zone)) ≡ Some (record { seconds = n; offset = offset_of f })
+plain_of : (front zone : List ℕ) (n : ℤ) (f : OffsetFields) → IsNumber front → IsNumber zone → int_value front ≡ Some n
+    → offset_fields zone ≡ Some f → header_time (front ++ (space ∷ zone)) ≡ Some (record { seconds = n; offset = offset_of f })
 plain_of front zone n f a b e h =
     let x = a.first ∷ a.rest in
     let y = b.first ∷ b.rest in
-    let colon : has_colon (front ++ (space ∷ zone)) ≡ false = rw (a.whole, b.whole) (list_any-append is_colon x (space ∷ y) ∙ neither (has_colon x) (has_colon (space ∷ y)) (no_colon x a.bytes) (no_colon y b.bytes)) in
-    let words : space_words (front ++ (space ∷ zone)) ≡ front ∷ zone ∷ [] = rw (a.whole, b.whole) (two-words a.first b.first a.rest b.rest a.bytes b.bytes) in
+    let colon : has_colon (front ++ (space ∷ zone)) ≡ false = rw (a.whole, b.whole) (list_any-append is_colon x (space ∷ y)
+    ∙ neither (has_colon x) (has_colon (space ∷ y)) (no_colon x a.bytes) (no_colon y b.bytes)) in
+    let words : space_words (front ++ (space ∷ zone)) ≡ front ∷ zone ∷ [] =
+    rw (a.whole, b.whole) (two-words a.first b.first a.rest b.rest a.bytes b.bytes) in
     by_words (front ++ (space ∷ zone)) front zone _ colon words (said front zone n f e h)
 
 -- A number, one space and an offset's fields: the header's time is what they say.
-pub usual-header : (front zone : List ℕ) (n : ℤ) (f : OffsetFields) → int_value front ≡ Some n → offset_fields zone ≡ Some f → header_time (front ++ (space ∷ zone)) ≡ Some (record { seconds = n; offset = offset_of f })
+pub usual-header : (front zone : List ℕ) (n : ℤ) (f : OffsetFields) → int_value front ≡ Some n → offset_fields zone ≡ Some f
+    → header_time (front ++ (space ∷ zone)) ≡ Some (record { seconds = n; offset = offset_of f })
 usual-header front zone n f e h = plain_of front zone n f (int-number front n e) (offset-number zone f h) e h
 
-pub plain_time : (text : List ℕ) (n : ℤ) (f : OffsetFields) → IsUsualHeader text n f → header_time text ≡ Some (record { seconds = n; offset = offset_of f })
+pub plain_time : (text : List ℕ) (n : ℤ) (f : OffsetFields) → IsUsualHeader text n f
+    → header_time text ≡ Some (record { seconds = n; offset = offset_of f })
 plain_time text n f h = ap header_time h.whole ∙ usual-header h.front h.zone n f h.is_seconds h.are_fields
 
 -- such a text by places
-pub plain-places : (text : List ℕ) (place : ℕ) (n : ℤ) (f : OffsetFields) → place < length text → get_or text place 0 ≡ space → int_value (take place text) ≡ Some n → offset_fields (drop (place + 1) text) ≡ Some f
+pub plain-places : (text : List ℕ) (place : ℕ) (n : ℤ) (f : OffsetFields) → place < length text → get_or text place 0 ≡ space
+    → int_value (take place text) ≡ Some n → offset_fields (drop (place + 1) text) ≡ Some f
     → IsUsualHeader text n f
 plain-places text place n f within mark e h = grind (arith, take-append-drop, drop-cons, add-one)
 
 -- the same of its bytes
-pub by_places : (text bytes zone : List ℕ) (place : ℕ) (n : ℤ) (f : OffsetFields) → bytes ≡ text → place < length bytes → get_or bytes place 0 ≡ space → int_value (take place bytes) ≡ Some n
+pub by_places : (text bytes zone : List ℕ) (place : ℕ) (n : ℤ) (f : OffsetFields) → bytes ≡ text → place < length bytes
+    → get_or bytes place 0 ≡ space → int_value (take place bytes) ≡ Some n
     → zone ≡ drop (place + 1) text → Some f ≡ offset_fields zone → IsUsualHeader text n f
 by_places text bytes zone place n f same within mark e is h =
-    subst (λ (t : List ℕ). IsUsualHeader t n f) same (plain-places bytes place n f within mark e (rw same (ap offset_fields (sym is) ∙ sym h)))
+    subst (λ (t : List ℕ). IsUsualHeader t n f) same
+    (plain-places bytes place n f within mark e (rw same (ap offset_fields (sym is) ∙ sym h)))
 
 -- the two words of such a text
 pub plain-words : (text : List ℕ) (n : ℤ) (f : OffsetFields) (h : IsUsualHeader text n f) → space_words text ≡ h.front ∷ h.zone ∷ []
@@ -240,6 +270,8 @@ unfolding space_words
 one-word w k =
     let front = k.first ∷ k.rest in
     let a = are_ascii front k.bytes in
-    let one : runs front ≡ front ∷ [] = ap runs (sym (append-nil front)) ∙ run_first k.first k.rest [] (no_white_space front k.bytes) ends in
-    let words : map encode_utf8_all (runs (chars front)) ≡ front ∷ [] = ap (λ cs. map encode_utf8_all (runs cs)) (chars-IsAscii front a) ∙ ap (map encode_utf8_all) one ∙ ap (λ (t : List ℕ). t ∷ []) (encodes-IsAscii front a) in
+    let one : runs front ≡ front ∷ [] = ap runs (sym (append-nil front))
+    ∙ run_first k.first k.rest [] (no_white_space front k.bytes) ends in
+    let words : map encode_utf8_all (runs (chars front)) ≡ front ∷ [] = ap (λ cs. map encode_utf8_all (runs cs)) (chars-IsAscii front a)
+    ∙ ap (map encode_utf8_all) one ∙ ap (λ (t : List ℕ). t ∷ []) (encodes-IsAscii front a) in
     ap (λ (t : List ℕ). map encode_utf8_all (runs (chars t))) k.whole ∙ words ∙ ap (λ (t : List ℕ). t ∷ []) (sym k.whole)

@@ -1,10 +1,12 @@
 -- Pairs of digits, several at once.
-use Rattle.std.proofs.Common.{◌≡◌, ◌∙◌, ℕ, ◌+◌, ◌-◌, ◌*◌, ◌/◌, ◌<◌, ◌≤◌, ◌%◌, ◌^◌, Bool, true, false, cond, leb, leb-false, List, [], ◌∷◌, map, length, drop-cons, get_or, replicate, refl, sym, ap, subst, arith, Some, Fits, w8, suc, zero}
+use Rattle.std.proofs.Common.{◌≡◌, ◌∙◌, ℕ, ◌+◌, ◌-◌, ◌*◌, ◌/◌, ◌<◌, ◌≤◌, ◌%◌, ◌^◌, Bool, true, false, cond, leb, leb-false, List, [], ◌∷◌}
+use Rattle.std.proofs.Common.{map, length, drop-cons, get_or, replicate, refl, sym, ap, subst, arith, Some, Fits, w8, suc, zero}
 use Rattle.std.proofs.lemmas.Bool.{and_parts as both}
 use Rattle.std.proofs.lemmas.Bool.Decides.{nat_tests}
 use Rattle.std.proofs.lemmas.List.{length-map, get_or-map, get_or-take}
 use Rattle.std.proofs.lemmas.Option.{cond_some}
-use Rattle.std.proofs.lemmas.Simd.{length-chunk, map-map, mask_l-mod, none_from_empty_mask, tops_compared, zip2_splat, zip2_splat_left, get_or_wider, Each1-from_get_or}
+use Rattle.std.proofs.lemmas.Simd.{length-chunk, map-map, mask_l-mod, none_from_empty_mask, tops_compared, zip2_splat, zip2_splat_left}
+use Rattle.std.proofs.lemmas.Simd.{get_or_wider, Each1-from_get_or}
 use Rattle.std.specs.Char.{is_ascii_digit, digit_value}
 use Rattle.std.specs.Str.{all_ascii_digits}
 use Rattle.std.specs.Str.Parse.{digits_value}
@@ -65,7 +67,8 @@ weigh a b p q = grind (arith, nat_tests)
 
 -- the number of a pair of digits
 pub pair_of_digits : (n h : ℕ) (bytes : List ℕ) (k : ℕ) → n ≤ length bytes → k < h → 2 * k + 1 < n
-    → is_ascii_digit (get_or bytes (2 * k) 0) ≡ true → is_ascii_digit (get_or bytes (2 * k + 1) 0) ≡ true → IsPairAt bytes (numbers_in n h bytes) k
+    → is_ascii_digit (get_or bytes (2 * k) 0) ≡ true → is_ascii_digit (get_or bytes (2 * k + 1) 0) ≡ true
+    → IsPairAt bytes (numbers_in n h bytes) k
 pair_of_digits n h bytes k room l within first second =
     let i = 2 * k in
     let block = chunk 0 n bytes in
@@ -74,24 +77,31 @@ pair_of_digits n h bytes k room l within first second =
     let b = get_or bytes (i + 1) 0 in
     let wide : length block ≡ n = length-chunk 0 n bytes (omega (arith, room)) in
     let long : length ds ≡ n = length-map block lane_of ∙ wide in
-    let small = Each1-from_get_or (λ (x : ℕ). x < 256) ds 0 (λ j in_ds. subst (λ (x : ℕ). x < 256) (sym (get_or-map lane_of block j 0 0 (omega (arith, wide, long, in_ds)))) (omega arith)) in
-    let one : get_or ds i 0 ≡ lane_of a = get_or-map lane_of block i 0 0 (omega (arith, wide, within)) ∙ ap lane_of (get_or-take n bytes i 0 (omega (arith, within))) in
-    let two : get_or ds (i + 1) 0 ≡ lane_of b = get_or-map lane_of block (i + 1) 0 0 (omega (arith, wide, within)) ∙ ap lane_of (get_or-take n bytes (i + 1) 0 within) in
+    let small = Each1-from_get_or (λ (x : ℕ). x < 256) ds 0
+    (λ j in_ds. subst (λ (x : ℕ). x < 256) (sym (get_or-map lane_of block j 0 0 (omega (arith, wide, long, in_ds)))) (omega arith)) in
+    let one : get_or ds i 0 ≡ lane_of a = get_or-map lane_of block i 0 0 (omega (arith, wide, within))
+    ∙ ap lane_of (get_or-take n bytes i 0 (omega (arith, within))) in
+    let two : get_or ds (i + 1) 0 ≡ lane_of b = get_or-map lane_of block (i + 1) 0 0 (omega (arith, wide, within))
+    ∙ ap lane_of (get_or-take n bytes (i + 1) 0 within) in
     let lane : get_or (digits_l 65536 h (number_l 256 ds)) k 0 ≡ lane_of a + 256 * lane_of b =
     get_or_wider 256 2 65536 h ds k refl small l ∙ two-lanes ds i (omega (arith, long, within)) ∙ omega (arith, one, two) in
     let value : get_or (map weighted (digits_l 65536 h (number_l 256 ds))) k 0 ≡ 10 * (a - 48) + (b - 48) =
-    get_or-map weighted (digits_l 65536 h (number_l 256 ds)) k 0 0 (omega (arith, l, many h (number_l 256 ds))) ∙ ap weighted lane ∙ weigh a b first second in
-    rw (first, second) (ap (λ (m : ℕ). Some m) (sym value ∙ ap (λ (t : List ℕ). get_or (map weighted (digits_l 65536 h (number_l 256 t))) k 0) (sym (lanes-are n bytes room))))
+    get_or-map weighted (digits_l 65536 h (number_l 256 ds)) k 0 0 (omega (arith, l, many h (number_l 256 ds))) ∙ ap weighted lane
+    ∙ weigh a b first second in
+    rw (first, second) (ap (λ (m : ℕ). Some m)
+    (sym value ∙ ap (λ (t : List ℕ). get_or (map weighted (digits_l 65536 h (number_l 256 t))) k 0) (sym (lanes-are n bytes room))))
   where
     many : (h x : ℕ) → length (digits_l 65536 h x) ≡ h
     many zero x = refl
     many (suc h) x = ap suc (many h (x / 65536))
 
 -- the first four pairs of bytes of which none is no digit
-pub four_at : (bytes : List ℕ) → 8 ≤ length bytes → ((k : ℕ) → Fits w8 (get_or bytes k 0)) → other_bits 8 bytes ≡ 0 → AreDigitPairs 4 bytes (numbers_in 8 4 bytes)
+pub four_at : (bytes : List ℕ) → 8 ≤ length bytes → ((k : ℕ) → Fits w8 (get_or bytes k 0)) → other_bits 8 bytes ≡ 0
+    → AreDigitPairs 4 bytes (numbers_in 8 4 bytes)
 four_at bytes room fits e k l =
     let none : mask_l (map is_other (chunk 0 8 bytes)) ≡ 0 = sym (other-bits 8 bytes room (omega arith)) ∙ e in
-    let each = λ (i : ℕ) (within : i < 8). digit (get_or bytes i 0) (fits i).fits (none_from_empty_mask is_other bytes 0 8 0 (omega (arith, room)) none i (omega arith) (omega (arith, within))) in
+    let each = λ (i : ℕ) (within : i < 8). digit (get_or bytes i 0) (fits i).fits
+    (none_from_empty_mask is_other bytes 0 8 0 (omega (arith, room)) none i (omega arith) (omega (arith, within))) in
     pair_of_digits 8 4 bytes k room l (omega (arith, l)) (each (2 * k) (omega (arith, l))) (each (2 * k + 1) (omega (arith, l)))
 
 -- what a pair's number says of its digits

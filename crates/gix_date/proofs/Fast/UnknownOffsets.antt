@@ -39,9 +39,11 @@ unknown-not-canonical ds h =
     let n = pos (digits_value 10 ds) in
     let bytes = number-bytes ds (int-number ds n (usual-seconds ds h).is_int) in
     let decimal = is_decimal_text (before_first is_space (ds ++ codes " -0000")) in
-    ap (λ (zone : List ℕ). decimal && is_canonical_offset zone) (after-of ds (codes "-0000") bytes) ∙ ap (λ (b : Bool). decimal && b) not-canonical-offset ∙ and_false decimal
+    ap (λ (zone : List ℕ). decimal && is_canonical_offset zone) (after-of ds (codes "-0000") bytes)
+    ∙ ap (λ (b : Bool). decimal && b) not-canonical-offset ∙ and_false decimal
 
-pub unknown-time : (ds : List ℕ) → are_usual_seconds ds ≡ true → header_time (ds ++ codes " -0000") ≡ Some (record { seconds = pos (digits_value 10 ds); offset = pos 0 })
+pub unknown-time : (ds : List ℕ) → are_usual_seconds ds ≡ true
+    → header_time (ds ++ codes " -0000") ≡ Some (record { seconds = pos (digits_value 10 ds); offset = pos 0 })
 unknown-time ds h =
     plain_time (ds ++ codes " -0000") (pos (digits_value 10 ds)) unknown_fields
     (record { front = ds; zone = codes "-0000"; whole = refl; is_seconds = (usual-seconds ds h).is_int; are_fields = are-unknown })

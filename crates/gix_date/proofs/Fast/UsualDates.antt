@@ -1,5 +1,7 @@
 -- Dates of fixed length are read by the family of their form, which is the first that holds them.
-use Rattle.std.proofs.Common.{◌≡◌, ◌∙◌, ◌+◌, ◌-◌, ◌*◌, ◌≤◌, ◌%◌, ◌^◌, ℕ, ℤ, true, cond, List, [], ◌∷◌, length, map, get_or, ap, ap₂, sym, arith, Some, None, inl, inr, ◌⊎◌, unsigned_abs, codes, w8, ltb, eqb, eqb-true, take, drop, zero, suc, length-take-le, length-drop, take_all}
+use Rattle.std.proofs.Common.{◌≡◌, ◌∙◌, ◌+◌, ◌-◌, ◌*◌, ◌≤◌, ◌%◌, ◌^◌, ℕ, ℤ, true, cond, List, [], ◌∷◌, length, map, get_or, ap, ap₂, sym}
+use Rattle.std.proofs.Common.{arith, Some, None, inl, inr, ◌⊎◌, unsigned_abs, codes, w8, ltb, eqb, eqb-true, take, drop, zero, suc}
+use Rattle.std.proofs.Common.{length-take-le, length-drop, take_all}
 use Rattle.std.proofs.lemmas.Bool.Decides.{nat_tests}
 use Rattle.std.proofs.lemmas.Simd.{mask_l-mod, tops_compared}
 use Rattle.std.specs.Prelude.{nat_le}
@@ -30,16 +32,19 @@ zip-short xs ys = (omega arith, omega arith)
 abbrev below : ℕ → ℕ → ℕ
 below a b = cond (ltb a b) 255 0
 
-pub lanes-at-most : (xs ys : List ℕ) → (length xs ≤ 64) ⊎ (length ys ≤ 64) → mask_l (map (top 7) (zip2 below xs ys)) % 2 ^ 64 ≡ 0 → AreAtMost ys xs
+pub lanes-at-most : (xs ys : List ℕ) → (length xs ≤ 64) ⊎ (length ys ≤ 64) → mask_l (map (top 7) (zip2 below xs ys)) % 2 ^ 64 ≡ 0
+    → AreAtMost ys xs
 lanes-at-most xs ys small e =
     let short = zip-short xs ys in
     let within : length (zip2 ltb xs ys) ≤ 64 = elim small [ inl a ↦ omega (arith, a, short) | inr b ↦ omega (arith, b, short) ] in
     none-below ys xs (sym (ap (λ ms. mask_l ms % 2 ^ 64) (tops_compared w8 ltb xs ys) ∙ mask_l-mod (zip2 ltb xs ys) 64 within) ∙ e)
 
 -- a block of bytes of which no bit says that one is above the other
-pub block_at_most : (low high : List ℕ) (n : ℕ) → n ≤ length low → n ≤ 64 → eqb (mask_l (map (top 7) (zip2 below (take n high) (take n low))) % 2 ^ 64) 0 ≡ true
+pub block_at_most : (low high : List ℕ) (n : ℕ) → n ≤ length low → n ≤ 64
+    → eqb (mask_l (map (top 7) (zip2 below (take n high) (take n low))) % 2 ^ 64) 0 ≡ true
     → AreAtMost (take n low) (take n high)
-block_at_most low high n long small none = lanes-at-most (take n high) (take n low) (inr (omega (arith, small, length-take-le n low long))) (eqb-true _ _ none)
+block_at_most low high n long small none =
+    lanes-at-most (take n high) (take n low) (inr (omega (arith, small, length-take-le n low long))) (eqb-true _ _ none)
 
 -- two blocks that cover a text are all of it
 cover : (n j : ℕ) (xs ys : List ℕ) → j ≤ n → AreAtMost (take n xs) (take n ys) → AreAtMost (drop j xs) (drop j ys) → AreAtMost xs ys
@@ -68,8 +73,10 @@ pub all_within : (low high text : List ℕ) → 16 ≤ length text → length te
     → AreAtMost (take 16 (from (length text - 16) low)) (take 16 (from (length text - 16) text))
     → AreAtMost (take 16 (from (length text - 16) text)) (take 16 (from (length text - 16) high)) → AreWithin low high text
 unfolding AreWithin
-all_within low high text long short l h a b c d =
-    (both-blocks low text (length text - 16) l (omega arith) (omega arith) a c, both-blocks text high (length text - 16) (sym h) (omega (arith, h)) (omega arith) b d)
+all_within low high text long short l h a b c d = (
+  both-blocks low text (length text - 16) l (omega arith) (omega arith) a c,
+  both-blocks text high (length text - 16) (sym h) (omega (arith, h)) (omega arith) b d,
+)
 
 pub exact : (c n : ℕ) → n ≤ c → c ≤ n → c ≡ n
 exact c n l u = omega (arith, l, u)
@@ -90,7 +97,8 @@ year-of a b c d n read ((k0, (k1, (k2, (k3, _)))), (u0, (u1, (u2, (u3, _))))) = 
 
 -- ten bytes that look like a date, and eight that look like a clock
 pub date_of : (t : List ℕ) (y m d : ℕ) → length t ≡ 10 → SaysYear (get_or t 0 0) (get_or t 1 0) (get_or t 2 0) (get_or t 3 0) y
-    → SaysField (get_or t 5 0) (get_or t 6 0) m → SaysField (get_or t 8 0) (get_or t 9 0) d → SaysDate t (record { year = y; month = m; day = d })
+    → SaysField (get_or t 5 0) (get_or t 6 0) m → SaysField (get_or t 8 0) (get_or t 9 0) d
+    → SaysDate t (record { year = y; month = m; day = d })
 unfolding SaysDate AreAtMost AreWithin
 date_of (a ∷ b ∷ c ∷ e ∷ x ∷ f ∷ g ∷ z ∷ i ∷ j ∷ []) y m d n year month day
     ((k0, (k1, (k2, (k3, (k4, (k5, (k6, (k7, (k8, (k9, _)))))))))), (u0, (u1, (u2, (u3, (u4, (u5, (u6, (u7, (u8, (u9, _))))))))))) =
@@ -110,10 +118,12 @@ date_of (a ∷ b ∷ c ∷ e ∷ x ∷ f ∷ g ∷ z ∷ i ∷ j ∷ []) y m d n
     )
 date_of t y m d n year month day h = absurd (omega (arith, n))
 
-pub clock_of : (t : List ℕ) (h m s : ℕ) → length t ≡ 8 → SaysField (get_or t 0 0) (get_or t 1 0) h → SaysField (get_or t 3 0) (get_or t 4 0) m
+pub clock_of : (t : List ℕ) (h m s : ℕ) → length t ≡ 8 → SaysField (get_or t 0 0) (get_or t 1 0) h
+    → SaysField (get_or t 3 0) (get_or t 4 0) m
     → SaysField (get_or t 6 0) (get_or t 7 0) s → SaysClock t (record { hour = h; minute = m; second = s })
 unfolding SaysClock AreAtMost AreWithin
-clock_of (a ∷ b ∷ x ∷ c ∷ d ∷ y ∷ e ∷ f ∷ []) h m s n hour minute second ((k0, (k1, (k2, (k3, (k4, (k5, (k6, (k7, _)))))))), (u0, (u1, (u2, (u3, (u4, (u5, (u6, (u7, _))))))))) =
+clock_of (a ∷ b ∷ x ∷ c ∷ d ∷ y ∷ e ∷ f ∷ []) h m s n hour minute second
+    ((k0, (k1, (k2, (k3, (k4, (k5, (k6, (k7, _)))))))), (u0, (u1, (u2, (u3, (u4, (u5, (u6, (u7, _))))))))) =
     let of_hour = two-of a b h 50 (omega arith) hour ((k0, (k1, tt)), (u0, (u1, tt))) in
     let of_minute = two-of c d m 53 (omega arith) minute ((k3, (k4, tt)), (u3, (u4, tt))) in
     let of_second = two-of e f s 53 (omega arith) second ((k6, (k7, tt)), (u6, (u7, tt))) in (
@@ -149,7 +159,8 @@ module _ {gap text : List ℕ} {o : ℤ} (h : IsUsualOffset gap text o) where
       omega (arith, distance, h.within_hours, h.within_minutes)
 
 compact-read : (text : List ℕ) (o : ℤ) (h : IsUsualOffset [] text o) → offset_fields text ≡ Some (said_fields h)
-compact-read text o h = ap offset_fields h.whole ∙ offset-of-pairs h.mark h.h0 h.h1 h.m0 h.m1 h.hours h.minutes h.sign h.is_mark h.are_hours h.are_minutes
+compact-read text o h = ap offset_fields h.whole
+    ∙ offset-of-pairs h.mark h.h0 h.h1 h.m0 h.m1 h.hours h.minutes h.sign h.is_mark h.are_hours h.are_minutes
 
 pub compact-usual : (text : List ℕ) (o : ℤ) → IsUsualOffset [] text o → compact_offset text ≡ Some o
 unfolding compact_offset
@@ -158,4 +169,5 @@ compact-usual text o h = rw (compact-read text o h) (allowed h)
 pub strict-usual : (text : List ℕ) (o : ℤ) → IsUsualOffset (colon ∷ []) text o → strict_offset text ≡ Some o
 unfolding strict_offset read_two_digits last_colon_pair skip_char
 strict-usual text o h =
-    ap strict_offset h.whole ∙ rw (sign-mark h.mark h.sign (h.h0 ∷ h.h1 ∷ colon ∷ h.m0 ∷ h.m1 ∷ []) h.is_mark, h.are_hours, h.are_minutes) (allowed h)
+    ap strict_offset h.whole
+    ∙ rw (sign-mark h.mark h.sign (h.h0 ∷ h.h1 ∷ colon ∷ h.m0 ∷ h.m1 ∷ []) h.is_mark, h.are_hours, h.are_minutes) (allowed h)

@@ -1,17 +1,21 @@
 -- Dates of fixed length are read by the family of their form, which is the first that holds them.
-use Rattle.std.proofs.Common.{Some, ◌≡◌, ◌∙◌, ◌≤◌, ◌+◌, ℕ, ℤ, zero, suc, Option, None, List, [], ◌∷◌, ◌++◌, length, take, drop, get_or, refl, ap, sym, subst, arith, inl, inr, codes, unsigned_abs, drop-cons, drop-drop, drop_of_length-le, length-take-le, length-drop, length-append, take-append-drop}
+use Rattle.std.proofs.Common.{Some, ◌≡◌, ◌∙◌, ◌≤◌, ◌+◌, ℕ, ℤ, zero, suc, Option, None, List, [], ◌∷◌, ◌++◌, length, take, drop, get_or}
+use Rattle.std.proofs.Common.{refl, ap, sym, subst, arith, inl, inr, codes, unsigned_abs, drop-cons, drop-drop, drop_of_length-le}
+use Rattle.std.proofs.Common.{length-take-le, length-drop, length-append, take-append-drop}
 use Rattle.std.proofs.lemmas.Bool.Decides.{nat_tests}
 use Rattle.gix_date.specs.Families.AfterDay.{dashed_answer}
 use Rattle.gix_date.specs.Families.Answer.{FamilyAnswer, Absolute}
 use Rattle.gix_date.specs.Families.Order.{answers_before_git, first_family_by}
-use Rattle.gix_date.specs.Families.Patterns.{short_answer, iso8601_answer, iso8601_strict_answer, time_answer, max_date_offset, IsMeaning, Accepts}
+use Rattle.gix_date.specs.Families.Patterns.{short_answer, iso8601_answer, iso8601_strict_answer, time_answer, max_date_offset, IsMeaning}
+use Rattle.gix_date.specs.Families.Patterns.{Accepts}
 use Rattle.gix_date.specs.Families.Raw.{OffsetRule}
 use Rattle.gix_date.specs.Families.Usual.{AreAtMost, AreWithin, SaysDate, SaysClock, SaysOffset, Says}
 use Rattle.gix_date.specs.Fields.Civil.{DateFits, ClockFits}
 use Rattle.gix_date.specs.Fields.FieldTexts.{AreSpaces}
-use Rattle.gix_date.specs.Fields.Layout.{LocalTime, Piece, PlainDate, Clock, Spaces, LetterT, Offset, ColonOffset, IsPiece, ArePieces, nothing_read}
-use Rattle.gix_date.specs.declared.civil.ClockFields.{ClockFields}
-use Rattle.gix_date.specs.declared.civil.DateFields.{DateFields}
+use Rattle.gix_date.specs.Fields.Layout.{LocalTime, Piece, PlainDate, Clock, Spaces, LetterT, Offset, ColonOffset, IsPiece, ArePieces}
+use Rattle.gix_date.specs.Fields.Layout.{nothing_read}
+use Rattle.gix_date.specs.declared.clock.ClockFields.{ClockFields}
+use Rattle.gix_date.specs.declared.clock.DateFields.{DateFields}
 use Rattle.gix_date.specs.Text.Characters.{space, letter_t}
 use Rattle.gix_date.proofs.Fast.UsualDates.{exact, compact-usual, strict-usual, within-a-day}
 use Rattle.gix_date.proofs.Fields.FieldsTaken.{first-or}
@@ -100,7 +104,8 @@ piece-of Clock t x n h r = ((r h).0, λ f k. (k.0, (r h).1, k.2))
 piece-of Spaces t (c ∷ []) n h r = (a-space c (exact c space h.0.0 h.1.0), λ f k. k)
 piece-of LetterT t (c ∷ []) n h r = (ap (λ (c : ℕ). c ∷ []) (exact c letter_t h.0.0 h.1.0), λ f k. k)
 piece-of Offset t (m ∷ a ∷ b ∷ c ∷ d ∷ []) n h r = let o = (r h).0 in (compact-usual _ t.offset o, λ f k. (k.0, k.1, within-a-day o))
-piece-of ColonOffset t (m ∷ a ∷ b ∷ x ∷ c ∷ d ∷ []) n ((k0, (k1, (k2, (k, (k3, (k4, _)))))), (u0, (u1, (u2, (u, (u3, (u4, _))))))) r = grind (arith, exact, strict-usual, within-a-day)
+piece-of ColonOffset t (m ∷ a ∷ b ∷ x ∷ c ∷ d ∷ []) n ((k0, (k1, (k2, (k, (k3, (k4, _)))))), (u0, (u1, (u2, (u, (u3, (u4, _))))))) r =
+    grind (arith, exact, strict-usual, within-a-day)
 piece-of Spaces t x n h r = absurd (omega (arith, n))
 piece-of LetterT t x n h r = absurd (omega (arith, n))
 piece-of Offset t x n h r = absurd (omega (arith, n))
@@ -117,7 +122,8 @@ split (x ∷ xs) (y ∷ ys) low high (c ∷ text) e n h =
     (((h.0.0, more.0.0), (h.1.0, more.0.1)), more.1)
 split xs ys low high text e n h = absurd (omega (arith, e, n))
 
-pieces-of : (ps : List Piece) (i : ℕ) (t : LocalTime) (text : List ℕ) → length text ≡ i + length (lowest ps) → AreWithin (lowest ps) (highest ps) (drop i text) → AreRead ps i t text
+pieces-of : (ps : List Piece) (i : ℕ) (t : LocalTime) (text : List ℕ) → length text ≡ i + length (lowest ps)
+    → AreWithin (lowest ps) (highest ps) (drop i text) → AreRead ps i t text
     → ArePieces ps t (drop i text) × ((f : LocalTime) → AllFit f → AllFit (set_pieces ps t f))
 pieces-of [] i t text n h r = (drop_of_length-le text (omega (arith, n)), λ f k. k)
 pieces-of (p ∷ ps) i t text n h r =
@@ -126,7 +132,8 @@ pieces-of (p ∷ ps) i t text n h r =
     let fits : size p ≤ length rest = omega (arith, long, length-drop i text) in
     let after : drop (size p) rest ≡ drop (i + size p) text = drop-drop (size p) i text in
     let both = split (bounds p).0 (bounds p).1 (lowest ps) (highest ps) rest (same-size p) fits h in
-    let here = piece-of p t (take (size p) rest) (length-take-le (size p) rest fits) both.0 (subst (Read p t) (part-is p i text (omega (arith, long))) r.0) in
+    let here = piece-of p t (take (size p) rest) (length-take-le (size p) rest fits) both.0
+    (subst (Read p t) (part-is p i text (omega (arith, long))) r.0) in
     let more = pieces-of ps (i + size p) t text long (subst (AreWithin (lowest ps) (highest ps)) after both.1) r.1 in (
       record {
         front = take (size p) rest;
@@ -150,24 +157,29 @@ says place {ps} {family} spelled is t fits text n h r =
       date_fits = fit.0;
       clock_fits = fit.1;
       within = fit.2;
-      first = λ a comes rule. first-at rule place text (Absolute a) (is rule text ∙ (spelled text (Absolute a)).1 (record { time = t; are = are.0; comes = comes }));
+      first = λ a comes rule. first-at rule place text (Absolute a)
+          (is rule text ∙ (spelled text (Absolute a)).1 (record { time = t; are = are.0; comes = comes }));
     }
 
-module _ (text : List ℕ) (date : DateFields) (c : ClockFields) (o : ℤ) (n : length text ≡ 25) (d : SaysDate (take 10 text) date) (k : SaysClock (take 8 (drop 11 text)) c) where
+module _ (text : List ℕ) (date : DateFields) (c : ClockFields) (o : ℤ) (n : length text ≡ 25) (d : SaysDate (take 10 text) date)
+    (k : SaysClock (take 8 (drop 11 text)) c) where
   pub iso8601_says : SaysOffset (get_or text 20 0) (get_or text 21 0) (get_or text 22 0) (get_or text 23 0) (get_or text 24 0) o
       → AreWithin (codes "0000-00-00 00:00:00 +0000") (codes "9999-19-39 29:59:59 -2959") text → Says text (date, c, o)
   iso8601_says offset w =
-      says 3 dates_spelled.iso8601 (λ rule text. refl) (record { weekday = 0; date = date; clock = c; offset = o }) (λ f. f) text n w (d, (tt, (k, (tt, (offset, tt)))))
+      says 3 dates_spelled.iso8601 (λ rule text. refl) (record { weekday = 0; date = date; clock = c; offset = o }) (λ f. f) text n w
+      (d, (tt, (k, (tt, (offset, tt)))))
 
   pub iso8601_strict_says : SaysOffset (get_or text 19 0) (get_or text 20 0) (get_or text 21 0) (get_or text 23 0) (get_or text 24 0) o
       → AreWithin (codes "0000-00-00T00:00:00+00:00") (codes "9999-19-39T29:59:59-29:59") text → Says text (date, c, o)
   iso8601_strict_says offset w =
-      says 4 dates_spelled.iso8601_strict (λ rule text. refl) (record { weekday = 0; date = date; clock = c; offset = o }) (λ f. f) text n w (d, (tt, (k, (offset, tt))))
+      says 4 dates_spelled.iso8601_strict (λ rule text. refl) (record { weekday = 0; date = date; clock = c; offset = o }) (λ f. f) text n w
+      (d, (tt, (k, (offset, tt))))
 
 -- what a date that begins with a day answers is the first answer
 pub dashed_first : (rule : OffsetRule) (text : List ℕ) (x : FamilyAnswer) → dashed_answer text ≡ Some x → first_family_by rule text ≡ Some x
 dashed_first rule text x e =
     elim (first-or (short_answer text) _ x e) [
       | inl short ↦ first-at rule 1 text x short
-      | inr more ↦ elim (first-or (iso8601_answer text) (iso8601_strict_answer text) x more) [ inl iso ↦ first-at rule 3 text x iso | inr strict ↦ first-at rule 4 text x strict ]
+      | inr more ↦ elim (first-or (iso8601_answer text) (iso8601_strict_answer text) x more)
+          [ inl iso ↦ first-at rule 3 text x iso | inr strict ↦ first-at rule 4 text x strict ]
     ]

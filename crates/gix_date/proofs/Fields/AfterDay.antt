@@ -4,13 +4,14 @@ use Rattle.std.proofs.lemmas.Bool.Decides.{nat_tests}
 use Rattle.std.specs.Option.{option_or}
 use Rattle.gix_date.specs.Families.Answer.{FamilyAnswer, Absolute}
 use Rattle.gix_date.specs.Families.Epoch.{utc_time}
-use Rattle.gix_date.specs.Families.Patterns.{short_answer, iso8601_answer, iso8601_strict_answer, gitoxide_answer, default_answer, real_day_answer, time_answer, midnight}
+use Rattle.gix_date.specs.Families.Patterns.{short_answer, iso8601_answer, iso8601_strict_answer, gitoxide_answer, default_answer}
+use Rattle.gix_date.specs.Families.Patterns.{real_day_answer, time_answer, midnight}
 use Rattle.gix_date.specs.Fields.Civil.{civil_instant}
 use Rattle.gix_date.specs.Fields.DateFields.{read_plain_date, skip_spaces}
 use Rattle.gix_date.specs.Text.Front.{skip_char, ◌>>=◌}
 use Rattle.gix_date.specs.Fields.Layout.{Piece, DayName, MonthName, Day, Year, Spaces, Clock, Offset, LetterT, ColonOffset, layout_answer}
 use Rattle.gix_date.specs.Families.AfterDay.{dashed_answer, answer_after, named_day_answer, read_named_day}
-use Rattle.gix_date.specs.declared.civil.DateFields.{DateFields}
+use Rattle.gix_date.specs.declared.clock.DateFields.{DateFields}
 use Rattle.gix_date.proofs.Fields.Instants.{is-dated}
 
 -- the answers after a day
@@ -29,7 +30,8 @@ unfolding short_answer iso8601_answer iso8601_strict_answer
 no_plain_day text e = rw e refl
 
 -- a day that has an instant answers it
-pub day_with_instant : (date : DateFields) (s : ℤ) → Some s ≡ civil_instant date midnight (pos 0) → Some (Absolute (utc_time s)) ≡ alone date []
+pub day_with_instant : (date : DateFields) (s : ℤ) → Some s ≡ civil_instant date midnight (pos 0)
+    → Some (Absolute (utc_time s)) ≡ alone date []
 day_with_instant date s e = rw (is-dated date midnight (pos 0) s e, sym e) refl
 
 -- with one they are those of what stands after it
@@ -43,7 +45,8 @@ or-none None = refl
 or-none (Some a) = refl
 
 -- where nothing stands after it, the day is alone
-pub day_alone : (text : List ℕ) (date : DateFields) (rest : List ℕ) → read_plain_date text ≡ Some (date, rest) → (length rest == 0) ≡ true → dashed_answer text ≡ alone date []
+pub day_alone : (text : List ℕ) (date : DateFields) (rest : List ℕ) → read_plain_date text ≡ Some (date, rest) → (length rest == 0) ≡ true
+    → dashed_answer text ≡ alone date []
 unfolding skip_spaces skip_char
 day_alone text date [] e empty = after-day text date [] e ∙ or-none (alone date [])
 day_alone text date (c ∷ cs) e empty = grind (arith, nat_tests)
@@ -66,13 +69,15 @@ day_then_t text date (c ∷ cs) x e more none is =
 -- The dates with names: the day of the week, the month and the day are read once for both.
 
 -- a step of both readings, where they go on alike after it
-step : {A P T B D : Type 0} (o : Option A) (f : A → Option P) (read : P → Option T) (answer : T → Option B) (g : A → Option D) (k : D → Option B)
+step : {A P T B D : Type 0} (o : Option A) (f : A → Option P) (read : P → Option T) (answer : T → Option B) (g : A → Option D)
+    (k : D → Option B)
     → ((a : A) → (f a >>= read >>= answer) ≡ (g a >>= k)) → (o >>= f >>= read >>= answer) ≡ (o >>= g >>= k)
 step None f read answer g k same = refl
 step (Some a) f read answer g k same = same a
 
 -- a form that begins with these is what stands after them
-named-day : (pieces : List Piece) (text : List ℕ) → layout_answer (DayName ∷ Spaces ∷ MonthName ∷ Spaces ∷ Day ∷ Spaces ∷ pieces) time_answer text
+named-day : (pieces : List Piece) (text : List ℕ)
+    → layout_answer (DayName ∷ Spaces ∷ MonthName ∷ Spaces ∷ Day ∷ Spaces ∷ pieces) time_answer text
     ≡ (read_named_day text >>= λ found. answer_after pieces time_answer found.0 found.1)
 unfolding read_named_day
 named-day pieces text = grind (arith, step)
@@ -88,14 +93,16 @@ clock-first = answer_after (Clock ∷ Spaces ∷ Year ∷ Spaces ∷ Offset ∷ 
 pub no_named_day : (text : List ℕ) → read_named_day text ≡ None → None ≡ named_day_answer text
 unfolding gitoxide_answer default_answer
 no_named_day text e =
-    rw (named-day (Year ∷ Spaces ∷ Clock ∷ Spaces ∷ Offset ∷ []) text, named-day (Clock ∷ Spaces ∷ Year ∷ Spaces ∷ Offset ∷ []) text, e) refl
+    rw (named-day (Year ∷ Spaces ∷ Clock ∷ Spaces ∷ Offset ∷ []) text, named-day (Clock ∷ Spaces ∷ Year ∷ Spaces ∷ Offset ∷ []) text, e)
+    refl
 
 -- with them the year comes first, or else the clock
 pub after_named_day : (text : List ℕ) (date : DateFields) (rest : List ℕ) → read_named_day text ≡ Some (date, rest)
     → named_day_answer text ≡ option_or (year-first date rest) (clock-first date rest)
 unfolding gitoxide_answer default_answer
 after_named_day text date rest e =
-    rw (named-day (Year ∷ Spaces ∷ Clock ∷ Spaces ∷ Offset ∷ []) text, named-day (Clock ∷ Spaces ∷ Year ∷ Spaces ∷ Offset ∷ []) text, e) refl
+    rw (named-day (Year ∷ Spaces ∷ Clock ∷ Spaces ∷ Offset ∷ []) text, named-day (Clock ∷ Spaces ∷ Year ∷ Spaces ∷ Offset ∷ []) text, e)
+    refl
 
 pub day_then_year : (text : List ℕ) (date : DateFields) (rest : List ℕ) (a : FamilyAnswer)
     → read_named_day text ≡ Some (date, rest) → Some a ≡ year-first date rest → Some a ≡ named_day_answer text

@@ -1,5 +1,6 @@
 -- Each civil nanosecond has its datetime, and each day number its date.
-use Rattle.std.proofs.Common.{◌≡◌, ◌∙◌, ℕ, zero, suc, ◌+◌, ◌/◌, ◌%◌, ◌<◌, ◌≤◌, inl, inr, ℤ, pos, neg_ℤ, ◌+ℤ◌, ◌-ℤ◌, ◌<ℤ◌, unsigned_abs, refl, sym, ap, subst, arith, rules}
+use Rattle.std.proofs.Common.{◌≡◌, ◌∙◌, ℕ, zero, suc, ◌+◌, ◌/◌, ◌%◌, ◌<◌, ◌≤◌, inl, inr, ℤ, pos, neg_ℤ, ◌+ℤ◌, ◌-ℤ◌, ◌<ℤ◌, unsigned_abs}
+use Rattle.std.proofs.Common.{refl, sym, ap, subst, arith, rules}
 use Rattle.std.proofs.lemmas.Bool.{cases_order}
 use Rattle.std.proofs.lemmas.Int.{by_lt_z}
 use Rattle.std.specs.Int.{int_div_euclid, int_rem_euclid}
@@ -7,7 +8,8 @@ use Rattle.jiff.specs.Types.{DateTime, Date, Time as TimeOfDay}
 use Rattle.jiff.specs.Words.{epoch_day, civil_nanos, time_nanos, IsEpochDay, IsCivilNanos, days_in_month}
 use Rattle.jiff_core.specs.Calendar.{days_from_civil, IsCivilDate}
 use Rattle.jiff_core.proofs.CalendarLemmas.{days_in_month_bounds}
-use Rattle.jiff_core.proofs.DateLemmas.{days_from_civil-day, days_from_civil-next_month, days_from_civil-next_year, days_from_civil-min, days_from_civil-max}
+use Rattle.jiff_core.proofs.DateLemmas.{days_from_civil-day, days_from_civil-next_month, days_from_civil-next_year, days_from_civil-min}
+use Rattle.jiff_core.proofs.DateLemmas.{days_from_civil-max}
 use Rattle.jiff_core.proofs.DateTimeLemmas.{civil_nanos-parts}
 use Rattle.jiff_core.proofs.SignedLemmas.{signed_arith, one_part}
 
@@ -23,7 +25,8 @@ after_year d more month day =
     let here : epoch_day d ≡ days_from_civil d.year 12 31 = rw (month, day) refl in
     by_lt_z d.year (pos 9999)
     (λ lt. let long = days_in_month_bounds (d.year +ℤ pos 1) 1 in (
-      date_of (d.year +ℤ pos 1) 1 1 ((omega (arith, signed_arith), omega (arith, signed_arith)), (omega arith, omega arith), (omega arith, omega (arith, long))),
+      date_of (d.year +ℤ pos 1) 1 1
+          ((omega (arith, signed_arith), omega (arith, signed_arith)), (omega arith, omega arith), (omega arith, omega (arith, long))),
       days_from_civil-next_year d.year (d.year +ℤ pos 1) (omega (arith, signed_arith)) refl ∙ ap (λ (z : ℤ). z +ℤ pos 1) (sym here),
     ))
     (λ ge. let last : d.year ≡ pos 9999 = omega (arith, signed_arith) in
@@ -58,8 +61,10 @@ next_day d more =
     ]
 
 day_from : (k : ℕ) → k ≤ 7_304_483 → IsDayOf (pos k -ℤ pos 4_371_587)
-day_from zero h =
-    (record { year = neg_ℤ (pos 9999); month = 1; day = 1; year_in = search rules; month_in = search rules; day_in = search rules }, days_from_civil-min)
+day_from zero h = (
+  record { year = neg_ℤ (pos 9999); month = 1; day = 1; year_in = search rules; month_in = search rules; day_in = search rules },
+  days_from_civil-min,
+)
 day_from (suc k) h =
     let before = day_from k (omega arith) in
     let next = next_day before.0 (omega (arith, signed_arith, before.1)) in

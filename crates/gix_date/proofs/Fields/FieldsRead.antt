@@ -1,5 +1,6 @@
 -- Fields that are written so are read.
-use Rattle.std.proofs.Common.{◌≡◌, ◌∙◌, ℕ, Bool, true, false, List, [], ◌∷◌, ◌++◌, length, refl, ap, sym, Option, Some, None, append_assoc, arith, ℤ, inl, inr}
+use Rattle.std.proofs.Common.{◌≡◌, ◌∙◌, ℕ, Bool, true, false, List, [], ◌∷◌, ◌++◌, length, refl, ap, sym, Option, Some, None, append_assoc}
+use Rattle.std.proofs.Common.{arith, ℤ, inl, inr}
 use Rattle.std.proofs.Math.Seq.{drop-append_seam}
 use Rattle.std.proofs.lemmas.Bool.{and_parts as both}
 use Rattle.std.proofs.lemmas.Bool.Decides.{nat_tests}
@@ -7,14 +8,16 @@ use Rattle.std.specs.Prelude.{◌==◌, nat_lt}
 use Rattle.std.specs.Char.{is_ascii_digit, is_ascii_alphabetic}
 use Rattle.std.specs.List.{prefix_len, list_all}
 use Rattle.gix_date.specs.Text.Characters.{colon, space, is_space}
-use Rattle.gix_date.specs.Fields.FieldTexts.{IsField, IsYear, AreSpaces, AreThreeLetters, IsDayName, IsMonthName, IsPlainDate, IsClock, IsRfc2822Clock, IsDayPrefix}
+use Rattle.gix_date.specs.Fields.FieldTexts.{IsField, IsYear, AreSpaces, AreThreeLetters, IsDayName, IsMonthName, IsPlainDate, IsClock}
+use Rattle.gix_date.specs.Fields.FieldTexts.{IsRfc2822Clock, IsDayPrefix}
 use Rattle.gix_date.specs.Text.Front.{skip_char}
 use Rattle.gix_date.specs.Text.Numbers.{read_two_digits, read_digit, read_field, read_year}
 use Rattle.gix_date.specs.Fields.Offsets.{offset_fields, read_sign}
-use Rattle.gix_date.specs.Fields.DateFields.{skip_day_name, skip_spaces, read_name, read_month, skip_weekday, read_plain_date, read_minutes, read_second, read_clock, read_rfc2822_clock}
+use Rattle.gix_date.specs.Fields.DateFields.{skip_day_name, skip_spaces, read_name, read_month, skip_weekday, read_plain_date, read_minutes}
+use Rattle.gix_date.specs.Fields.DateFields.{read_second, read_clock, read_rfc2822_clock}
 use Rattle.gix_date.specs.Fields.DateOffsets.{compact_offset, strict_offset, rfc2822_zone, rfc2822_offset, named_zone}
-use Rattle.gix_date.specs.declared.civil.ClockFields.{ClockFields}
-use Rattle.gix_date.specs.declared.civil.DateFields.{DateFields}
+use Rattle.gix_date.specs.declared.clock.ClockFields.{ClockFields}
+use Rattle.gix_date.specs.declared.clock.DateFields.{DateFields}
 
 -- What begins with such a character, and what does not begin with one.
 abbrev pub Begins : (ℕ → Bool) → List ℕ → Type 0
@@ -112,7 +115,8 @@ pub weekday-read : (t rest : List ℕ) → IsDayName t → skip_weekday (t ++ re
 unfolding skip_weekday
 weekday-read t rest h = rw (name-read t rest h.0, h.1) refl
 
-pub date-read : (t rest : List ℕ) (date : DateFields) → IsPlainDate t date → BeginsNot is_ascii_digit rest → read_plain_date (t ++ rest) ≡ Some (date, rest)
+pub date-read : (t rest : List ℕ) (date : DateFields) → IsPlainDate t date → BeginsNot is_ascii_digit rest
+    → read_plain_date (t ++ rest) ≡ Some (date, rest)
 unfolding read_plain_date skip_char
 date-read t rest date h s = grind (arith, append_assoc, year-read, field-read)
 
@@ -133,7 +137,8 @@ minutes hour minute = record { hour = hour; minute = minute; second = 0 }
 with_second : ℕ → ℕ → List ℕ → ℕ → Option (ClockFields × List ℕ)
 with_second hour minute rest second = Some (record { hour = hour; minute = minute; second = second }, rest)
 
-pub clock-read : (t rest : List ℕ) (clock : ClockFields) → IsClock t clock → BeginsNot is_ascii_digit rest → read_clock (t ++ rest) ≡ Some (clock, rest)
+pub clock-read : (t rest : List ℕ) (clock : ClockFields) → IsClock t clock → BeginsNot is_ascii_digit rest
+    → read_clock (t ++ rest) ≡ Some (clock, rest)
 unfolding read_clock read_minutes read_second skip_char with_second
 clock-read t rest clock h s = grind (arith, append_assoc, field-read, with_second)
 
@@ -146,16 +151,22 @@ unfolding read_second skip_char
 no-second clock [] h = refl
 no-second clock (c ∷ t) h = rw h refl
 
-second-read : {t : List ℕ} {clock : ClockFields} (h : IsClock t clock) (rest : List ℕ) → BeginsNot is_ascii_digit rest → read_second (minutes clock.hour clock.minute) (colon ∷ (h.second ++ rest)) ≡ Some (clock, rest)
+second-read : {t : List ℕ} {clock : ClockFields} (h : IsClock t clock) (rest : List ℕ) → BeginsNot is_ascii_digit rest
+    → read_second (minutes clock.hour clock.minute) (colon ∷ (h.second ++ rest)) ≡ Some (clock, rest)
 unfolding read_second skip_char with_second
 second-read {clock = clock} h rest s = grind (arith, field-read, with_second)
 
-pub rfc2822-clock-read : (t rest : List ℕ) (clock : ClockFields) → IsRfc2822Clock t clock → BeginsNot is_ascii_digit rest → NoColon rest → read_rfc2822_clock (t ++ rest) ≡ Some (clock, rest)
+pub rfc2822-clock-read : (t rest : List ℕ) (clock : ClockFields) → IsRfc2822Clock t clock → BeginsNot is_ascii_digit rest → NoColon rest
+    → read_rfc2822_clock (t ++ rest) ≡ Some (clock, rest)
 unfolding read_rfc2822_clock read_minutes skip_char with_second
 rfc2822-clock-read t rest clock (inl h) s e =
     let split : t ++ rest ≡ h.hour ++ (colon ∷ (h.minute ++ (colon ∷ (h.second ++ rest)))) = rw h.whole (simp append_assoc) in
     let second : read_second (minutes clock.hour clock.minute) (colon ∷ (h.second ++ rest)) ≡ Some (clock, rest) = second-read h rest s in
-    ap read_rfc2822_clock split ∙ rw (field-read h.hour (colon ∷ (h.minute ++ (colon ∷ (h.second ++ rest)))) clock.hour h.is_hour refl, field-read h.minute (colon ∷ (h.second ++ rest)) clock.minute h.is_minute refl, second) refl
+    ap read_rfc2822_clock split ∙ rw (
+      field-read h.hour (colon ∷ (h.minute ++ (colon ∷ (h.second ++ rest)))) clock.hour h.is_hour refl,
+      field-read h.minute (colon ∷ (h.second ++ rest)) clock.minute h.is_minute refl,
+      second,
+    ) refl
 rfc2822-clock-read t rest clock (inr h) s e = grind (arith, append_assoc, field-read, no-second, with_second)
 
 pub is-space : (c : ℕ) → is_space c ≡ true → c ≡ space
@@ -170,11 +181,13 @@ space_no_rfc2822 : (t : List ℕ) → rfc2822_zone (space ∷ t) ≡ None
 unfolding rfc2822_zone rfc2822_offset named_zone offset_fields read_sign skip_char
 space_no_rfc2822 t = refl
 
-never : (zone : List ℕ → Option ℤ) (c : ℕ) (t : List ℕ) (offset : ℤ) (b : Bool) → ((t : List ℕ) → zone (space ∷ t) ≡ None) → is_space c ≡ b → zone (c ∷ t) ≡ Some offset → b ≡ false
+never : (zone : List ℕ → Option ℤ) (c : ℕ) (t : List ℕ) (offset : ℤ) (b : Bool) → ((t : List ℕ) → zone (space ∷ t) ≡ None) → is_space c ≡ b
+    → zone (c ∷ t) ≡ Some offset → b ≡ false
 never zone c t offset false refused e h = refl
 never zone c t offset true refused e h = grind (arith, is-space)
 
-zone-no-space : (zone : List ℕ → Option ℤ) → ((t : List ℕ) → zone (space ∷ t) ≡ None) → (t : List ℕ) (offset : ℤ) → zone t ≡ Some offset → BeginsNot is_space t
+zone-no-space : (zone : List ℕ → Option ℤ) → ((t : List ℕ) → zone (space ∷ t) ≡ None) → (t : List ℕ) (offset : ℤ) → zone t ≡ Some offset
+    → BeginsNot is_space t
 zone-no-space zone refused [] offset h = tt
 zone-no-space zone refused (c ∷ t) offset h = never zone c t offset (is_space c) refused refl h
 

@@ -1,6 +1,7 @@
 -- Fields that are read are written so.
 use Rattle.std.proofs.lemmas.Grind.{common_steps}
-use Rattle.std.proofs.Common.{◌≡◌, ◌∙◌, ℕ, ℤ, ◌<◌, ◌+◌, ◌-◌, ◌*◌, Bool, true, false, cond, List, [], ◌∷◌, ◌++◌, length, drop, take, refl, ap, sym, subst, Option, Some, None, append_assoc, arith, inl, inr, ◌⊎◌, option_map, take-append-drop, one-add}
+use Rattle.std.proofs.Common.{◌≡◌, ◌∙◌, ℕ, ℤ, ◌<◌, ◌+◌, ◌-◌, ◌*◌, Bool, true, false, cond, List, [], ◌∷◌, ◌++◌, length, drop, take, refl}
+use Rattle.std.proofs.Common.{ap, sym, subst, Option, Some, None, append_assoc, arith, inl, inr, ◌⊎◌, option_map, take-append-drop, one-add}
 use Rattle.std.proofs.lemmas.Option.{same_Some as same, cond_some as guard}
 use Rattle.std.proofs.lemmas.Bool.{and_parts as both}
 use Rattle.std.proofs.lemmas.Bool.Decides.{nat_tests}
@@ -10,12 +11,15 @@ use Rattle.std.specs.Char.{is_ascii_digit}
 use Rattle.std.specs.List.{prefix_len, list_all}
 use Rattle.std.specs.Option.{option_or}
 use Rattle.gix_date.specs.Text.Characters.{minus, comma, colon, is_space}
-use Rattle.gix_date.specs.Fields.FieldTexts.{IsDigit, IsField, IsYear, AreSpaces, AreThreeLetters, IsDayName, IsMonthName, IsPlainDate, AreMinutes, IsClock, IsRfc2822Clock, IsDayPrefix}
+use Rattle.gix_date.specs.Fields.FieldTexts.{IsDigit, IsField, IsYear, AreSpaces, AreThreeLetters, IsDayName, IsMonthName, IsPlainDate}
+use Rattle.gix_date.specs.Fields.FieldTexts.{AreMinutes, IsClock, IsRfc2822Clock, IsDayPrefix}
 use Rattle.gix_date.specs.Text.Front.{ReadFront, skip_char, ◌>>=◌}
 use Rattle.gix_date.specs.Text.Numbers.{read_two_digits, read_digit, read_field, read_year}
-use Rattle.gix_date.specs.Fields.DateFields.{skip_day_name, skip_spaces, read_name, read_month, month_named, is_weekday, skip_weekday, read_plain_date, read_minutes, read_second, read_clock, read_rfc2822_clock, without_leap_second}
-use Rattle.gix_date.specs.declared.civil.ClockFields.{ClockFields}
-use Rattle.gix_date.specs.declared.civil.DateFields.{DateFields}
+use Rattle.gix_date.specs.Fields.DateFields.{skip_day_name, skip_spaces, read_name, read_month, month_named, is_weekday, skip_weekday}
+use Rattle.gix_date.specs.Fields.DateFields.{read_plain_date, read_minutes, read_second, read_clock, read_rfc2822_clock}
+use Rattle.gix_date.specs.Fields.DateFields.{without_leap_second}
+use Rattle.gix_date.specs.declared.clock.ClockFields.{ClockFields}
+use Rattle.gix_date.specs.declared.clock.DateFields.{DateFields}
 use Rattle.gix_date.specs.declared.time.Time.{Time}
 
 -- the time of these seconds at this offset
@@ -60,19 +64,24 @@ after-taken b (c ∷ t) rest e = grind (arith, guard, nat_tests)
 abbrev at_front : ℕ → List ℕ → ℕ × List ℕ
 at_front n rest = (n, rest)
 
-took : (IsText : List ℕ → ℕ → Type 0) (x text : List ℕ) (v n : ℕ) (r rest : List ℕ) → at_front v r ≡ at_front n rest → IsText text v → x ≡ text ++ r → Took IsText x n rest
+took : (IsText : List ℕ → ℕ → Type 0) (x text : List ℕ) (v n : ℕ) (r rest : List ℕ) → at_front v r ≡ at_front n rest → IsText text v
+    → x ≡ text ++ r → Took IsText x n rest
 took IsText x text v n r rest e h w = grind (arith)
 
-one_digit : (a n : ℕ) (x rest : List ℕ) → cond (is_ascii_digit a) (Some (at_front (a - 48) x)) None ≡ Some (at_front n rest) → Took IsField (a ∷ x) n rest
+one_digit : (a n : ℕ) (x rest : List ℕ) → cond (is_ascii_digit a) (Some (at_front (a - 48) x)) None ≡ Some (at_front n rest)
+    → Took IsField (a ∷ x) n rest
 one_digit a n x rest e =
     let g = guard (is_ascii_digit a) (a - 48, x) (n, rest) e in
     took IsField (a ∷ x) (a ∷ []) (a - 48) n x rest g.1 (g.0, refl) refl
 
 two_or_one : (a b n : ℕ) (t rest : List ℕ) (p q : Bool) → is_ascii_digit a ≡ p → is_ascii_digit b ≡ q
-    → option_or (option_map (λ m. at_front m t) (cond (p && q) (Some (10 * (a - 48) + (b - 48))) None)) (cond p (Some (at_front (a - 48) (b ∷ t))) None) ≡ Some (at_front n rest)
+    → option_or (option_map (λ m. at_front m t) (cond (p && q) (Some (10 * (a - 48) + (b - 48))) None))
+    (cond p (Some (at_front (a - 48) (b ∷ t))) None) ≡ Some (at_front n rest)
     → Took IsField (a ∷ b ∷ t) n rest
-two_or_one a b n t rest true true ha hb e = took IsField (a ∷ b ∷ t) (a ∷ b ∷ []) (10 * (a - 48) + (b - 48)) n t rest (same (at_front (10 * (a - 48) + (b - 48)) t) (n, rest) e) (ha, hb, refl) refl
-two_or_one a b n t rest true false ha hb e = took IsField (a ∷ b ∷ t) (a ∷ []) (a - 48) n (b ∷ t) rest (same (at_front (a - 48) (b ∷ t)) (n, rest) e) (ha, refl) refl
+two_or_one a b n t rest true true ha hb e = took IsField (a ∷ b ∷ t) (a ∷ b ∷ []) (10 * (a - 48) + (b - 48)) n t rest
+    (same (at_front (10 * (a - 48) + (b - 48)) t) (n, rest) e) (ha, hb, refl) refl
+two_or_one a b n t rest true false ha hb e =
+    took IsField (a ∷ b ∷ t) (a ∷ []) (a - 48) n (b ∷ t) rest (same (at_front (a - 48) (b ∷ t)) (n, rest) e) (ha, refl) refl
 two_or_one a b n t rest false q ha hb e = absurd cc
 
 pub field-taken : (x : List ℕ) (n : ℕ) (rest : List ℕ) → read_field x ≡ Some (n, rest) → Took IsField x n rest
@@ -89,7 +98,8 @@ pub record TookTwo (x : List ℕ) (n : ℕ) (rest : List ℕ) : Type 0 where
   pub value : n ≡ 10 * (tens - 48) + (ones - 48)
   pub whole : x ≡ tens ∷ ones ∷ rest
 
-two : (a b n : ℕ) (t rest : List ℕ) (p : Bool) → (is_ascii_digit a && is_ascii_digit b) ≡ p → option_map (λ m. at_front m t) (cond p (Some (10 * (a - 48) + (b - 48))) None) ≡ Some (at_front n rest) → TookTwo (a ∷ b ∷ t) n rest
+two : (a b n : ℕ) (t rest : List ℕ) (p : Bool) → (is_ascii_digit a && is_ascii_digit b) ≡ p
+    → option_map (λ m. at_front m t) (cond p (Some (10 * (a - 48) + (b - 48))) None) ≡ Some (at_front n rest) → TookTwo (a ∷ b ∷ t) n rest
 two a b n t rest false h e = absurd cc
 two a b n t rest true h e = grind (arith, both, same)
 
@@ -106,11 +116,13 @@ year-taken x n rest e =
     let first = two-taken x c.0.0 c.0.1 c.1 in
     let second = two-taken c.0.1 y.0.0 y.0.1 y.1 in
     let found = same (at_front (100 * c.0.0 + y.0.0) y.0.1) (n, rest) y.2 in
-    let value : 100 * c.0.0 + y.0.0 ≡ 100 * (10 * (first.tens - 48) + (first.ones - 48)) + (10 * (second.tens - 48) + (second.ones - 48)) = omega (arith, first.value, second.value) in
+    let value : 100 * c.0.0 + y.0.0 ≡ 100 * (10 * (first.tens - 48) + (first.ones - 48)) + (10 * (second.tens - 48) + (second.ones - 48)) =
+    omega (arith, first.value, second.value) in
     took IsYear x (first.tens ∷ first.ones ∷ second.tens ∷ second.ones ∷ []) (100 * c.0.0 + y.0.0) n y.0.1 rest found
     (first.is_tens, first.is_ones, second.is_tens, second.is_ones, value) (first.whole ∙ ap (λ t. first.tens ∷ first.ones ∷ t) second.whole)
 
-one_more : (p : ℕ → Bool) (c : ℕ) (x : List ℕ) (n : ℕ) (b : Bool) → p c ≡ b → list_all p (take n x) ≡ true → list_all p (take (cond b (1 + n) 0) (c ∷ x)) ≡ true
+one_more : (p : ℕ → Bool) (c : ℕ) (x : List ℕ) (n : ℕ) (b : Bool) → p c ≡ b → list_all p (take n x) ≡ true
+    → list_all p (take (cond b (1 + n) 0) (c ∷ x)) ≡ true
 one_more p c x n true h more = rw (one-add n) (rw h more)
 one_more p c x n false h more = refl
 
@@ -170,7 +182,8 @@ prefix-taken x rest e =
     let mark = went (skip_char comma name.0) (λ s. skip_spaces s) rest name.2 in
     let day = weekday-taken x name.0 name.1 in
     let gap = spaces-taken mark.0 rest mark.2 in
-    let after_name : name.0 ≡ comma ∷ (gap.text ++ rest) = after-taken comma name.0 mark.0 mark.1 ∙ ap (λ (t : List ℕ). comma ∷ t) gap.whole in
+    let after_name : name.0 ≡ comma ∷ (gap.text ++ rest) = after-taken comma name.0 mark.0 mark.1
+    ∙ ap (λ (t : List ℕ). comma ∷ t) gap.whole in
     let split : x ≡ day.name ++ (comma ∷ (gap.text ++ rest)) = day.whole ∙ ap (λ (t : List ℕ). day.name ++ t) after_name in
     record {
       text = day.name ++ (comma ∷ gap.text);
@@ -199,10 +212,13 @@ date-taken x date rest e =
     let m = field-taken mark.0 month.0.0 month.0.1 month.1 in
     let d = field-taken next.0 day.0.0 day.0.1 day.1 in
     let found = same (date_at year.0.0 month.0.0 day.0.0 day.0.1) (date, rest) day.2 in
-    let after_m : month.0.1 ≡ minus ∷ (d.text ++ day.0.1) = after-taken minus month.0.1 next.0 next.1 ∙ ap (λ (t : List ℕ). minus ∷ t) d.whole in
-    let after_y : year.0.1 ≡ minus ∷ (m.text ++ (minus ∷ (d.text ++ day.0.1))) = after-taken minus year.0.1 mark.0 mark.1 ∙ ap (λ (t : List ℕ). minus ∷ t) (m.whole ∙ ap (λ (t : List ℕ). m.text ++ t) after_m) in
+    let after_m : month.0.1 ≡ minus ∷ (d.text ++ day.0.1) = after-taken minus month.0.1 next.0 next.1
+    ∙ ap (λ (t : List ℕ). minus ∷ t) d.whole in
+    let after_y : year.0.1 ≡ minus ∷ (m.text ++ (minus ∷ (d.text ++ day.0.1))) = after-taken minus year.0.1 mark.0 mark.1
+    ∙ ap (λ (t : List ℕ). minus ∷ t) (m.whole ∙ ap (λ (t : List ℕ). m.text ++ t) after_m) in
     let split : x ≡ y.text ++ (minus ∷ (m.text ++ (minus ∷ (d.text ++ day.0.1)))) = y.whole ∙ ap (λ (t : List ℕ). y.text ++ t) after_y in
-    let joined : (y.text ++ minus ∷ m.text ++ minus ∷ d.text) ++ day.0.1 ≡ y.text ++ (minus ∷ (m.text ++ (minus ∷ (d.text ++ day.0.1)))) = simp append_assoc in
+    let joined : (y.text ++ minus ∷ m.text ++ minus ∷ d.text) ++ day.0.1 ≡ y.text ++ (minus ∷ (m.text ++ (minus ∷ (d.text ++ day.0.1)))) =
+    simp append_assoc in
     subst (λ (p : DateFields × List ℕ). Took IsPlainDate x p.0 p.1) found (record {
       text = y.text ++ minus ∷ m.text ++ minus ∷ d.text;
       is = record { year = y.text; month = m.text; day = d.text; whole = refl; is_year = y.is; is_month = m.is; is_day = d.is };
@@ -224,7 +240,8 @@ minutes-taken x clock rest e =
     let h = field-taken x hour.0.0 hour.0.1 hour.1 in
     let m = field-taken mark.0 minute.0.0 minute.0.1 minute.1 in
     let found = same (minutes_at hour.0.0 minute.0.0 minute.0.1) (clock, rest) minute.2 in
-    let after_h : hour.0.1 ≡ colon ∷ (m.text ++ minute.0.1) = after-taken colon hour.0.1 mark.0 mark.1 ∙ ap (λ (t : List ℕ). colon ∷ t) m.whole in
+    let after_h : hour.0.1 ≡ colon ∷ (m.text ++ minute.0.1) = after-taken colon hour.0.1 mark.0 mark.1
+    ∙ ap (λ (t : List ℕ). colon ∷ t) m.whole in
     let joined : (h.text ++ colon ∷ m.text) ++ minute.0.1 ≡ h.text ++ (colon ∷ (m.text ++ minute.0.1)) = simp append_assoc in
     subst (λ (p : ClockFields × List ℕ). Took AreMinutes x p.0 p.1) found (record {
       text = h.text ++ colon ∷ m.text;
@@ -236,20 +253,35 @@ abbrev clock_at : ClockFields → ℕ → List ℕ → ClockFields × List ℕ
 clock_at clock seconds rest = (record clock { second = without_leap_second seconds }, rest)
 
 -- a second after minutes makes a clock
-second-taken : (x : List ℕ) (start : ClockFields) (middle : List ℕ) (clock : ClockFields) (rest : List ℕ) → Took AreMinutes x start middle → read_second start middle ≡ Some (clock, rest) → Took IsClock x clock rest
+second-taken : (x : List ℕ) (start : ClockFields) (middle : List ℕ) (clock : ClockFields) (rest : List ℕ) → Took AreMinutes x start middle
+    → read_second start middle ≡ Some (clock, rest) → Took IsClock x clock rest
 unfolding read_second
 second-taken x start middle clock rest front e =
     let mark = went (skip_char colon middle) (λ r. read_field r >>= λ second. Some (clock_at start second.0 second.1)) (clock, rest) e in
     let second = went (read_field mark.0) (λ second. Some (clock_at start second.0 second.1)) (clock, rest) mark.2 in
     let s = field-taken mark.0 second.0.0 second.0.1 second.1 in
     let found = same (clock_at start second.0.0 second.0.1) (clock, rest) second.2 in
-    let after_m : middle ≡ colon ∷ (s.text ++ second.0.1) = after-taken colon middle mark.0 mark.1 ∙ ap (λ (t : List ℕ). colon ∷ t) s.whole in
+    let after_m : middle ≡ colon ∷ (s.text ++ second.0.1) = after-taken colon middle mark.0 mark.1
+    ∙ ap (λ (t : List ℕ). colon ∷ t) s.whole in
     let f = front.is in
-    let joined : (f.hour ++ colon ∷ f.minute ++ colon ∷ s.text) ++ second.0.1 ≡ (f.hour ++ colon ∷ f.minute) ++ (colon ∷ (s.text ++ second.0.1)) = simp append_assoc in
+    let joined : (f.hour ++ colon ∷ f.minute ++ colon ∷ s.text) ++ second.0.1 ≡ (f.hour ++ colon ∷ f.minute)
+    ++ (colon ∷ (s.text ++ second.0.1)) = simp append_assoc in
     subst (λ (p : ClockFields × List ℕ). Took IsClock x p.0 p.1) found (record {
       text = f.hour ++ colon ∷ f.minute ++ colon ∷ s.text;
-      is = record { hour = f.hour; minute = f.minute; second = s.text; seconds = second.0.0; whole = refl; is_hour = f.is_hour; is_minute = f.is_minute; is_second = s.is; without_leap = refl };
-      whole = front.whole ∙ ap (λ (t : List ℕ). front.text ++ t) after_m ∙ ap (λ (t : List ℕ). t ++ (colon ∷ (s.text ++ second.0.1))) f.whole ∙ sym joined;
+      is = record {
+        hour = f.hour;
+        minute = f.minute;
+        second = s.text;
+        seconds = second.0.0;
+        whole = refl;
+        is_hour = f.is_hour;
+        is_minute =
+            f.is_minute;
+        is_second = s.is;
+        without_leap = refl;
+      };
+      whole = front.whole ∙ ap (λ (t : List ℕ). front.text ++ t) after_m
+          ∙ ap (λ (t : List ℕ). t ++ (colon ∷ (s.text ++ second.0.1))) f.whole ∙ sym joined;
     })
 
 pub clock-taken : (x : List ℕ) (clock : ClockFields) (rest : List ℕ) → read_clock x ≡ Some (clock, rest) → Took IsClock x clock rest
@@ -261,13 +293,16 @@ clock-taken x clock rest e =
 as_rfc2822 : {x : List ℕ} {clock : ClockFields} {rest : List ℕ} → Took IsClock x clock rest → Took IsRfc2822Clock x clock rest
 as_rfc2822 t = record { text = t.text; is = inl t.is; whole = t.whole }
 
-with_or_without : (x : List ℕ) (start : ClockFields) (middle : List ℕ) (clock : ClockFields) (rest : List ℕ) (second : ReadFront ClockFields) → read_second start middle ≡ second → Took AreMinutes x start middle
+with_or_without : (x : List ℕ) (start : ClockFields) (middle : List ℕ) (clock : ClockFields) (rest : List ℕ)
+    (second : ReadFront ClockFields) → read_second start middle ≡ second → Took AreMinutes x start middle
     → Some (unwrap_or second (start, middle)) ≡ Some (clock, rest) → Took IsRfc2822Clock x clock rest
 with_or_without x start middle clock rest (Some found) s front e = grind (arith, same, as_rfc2822, second-taken)
 with_or_without x start middle clock rest None s front e = grind (arith, same)
 
-pub rfc2822-clock-taken : (x : List ℕ) (clock : ClockFields) (rest : List ℕ) → read_rfc2822_clock x ≡ Some (clock, rest) → Took IsRfc2822Clock x clock rest
+pub rfc2822-clock-taken : (x : List ℕ) (clock : ClockFields) (rest : List ℕ) → read_rfc2822_clock x ≡ Some (clock, rest)
+    → Took IsRfc2822Clock x clock rest
 unfolding read_rfc2822_clock
 rfc2822-clock-taken x clock rest e =
     let start = went (read_minutes x) (λ start. Some (unwrap_or (read_second start.0 start.1) start)) (clock, rest) e in
-    with_or_without x start.0.0 start.0.1 clock rest (read_second start.0.0 start.0.1) refl (minutes-taken x start.0.0 start.0.1 start.1) start.2
+    with_or_without x start.0.0 start.0.1 clock rest (read_second start.0.0 start.0.1) refl (minutes-taken x start.0.0 start.0.1 start.1)
+    start.2

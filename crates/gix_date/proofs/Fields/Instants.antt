@@ -15,8 +15,8 @@ use Rattle.jiff_core.specs.declared.civil.date.Date.{Date}
 use Rattle.jiff_core.specs.declared.civil.datetime.DateTime.{DateTime}
 use Rattle.gix_date.specs.Fields.Civil.{is_date, is_clock, civil_seconds, civil_instant}
 use Rattle.gix_date.specs.Fields.Zoned.{is_instant, first_second, last_second}
-use Rattle.gix_date.specs.declared.civil.DateFields.{DateFields}
-use Rattle.gix_date.specs.declared.civil.ClockFields.{ClockFields}
+use Rattle.gix_date.specs.declared.clock.DateFields.{DateFields}
+use Rattle.gix_date.specs.declared.clock.ClockFields.{ClockFields}
 
 -- the seconds are those of an instant
 abbrev pub IsInstantSeconds : ℤ → Type 0
@@ -54,14 +54,17 @@ instant_from s h = join _ _ (z_holds _ _ h.0) (z_holds _ _ h.1)
 epoch_day_of : (date : Date) (y m d : ℤ) → IsYmd y m d date → epoch_day date ≡ days_from_civil y (unsigned_abs m) (unsigned_abs d)
 epoch_day_of date y m d h = rw (← h.0, ← h.1, ← h.2) refl
 
-pub local_nanos : (local : DateTime) (d : DateFields) (c : ClockFields) (offset : ℤ) → IsYmd (pos d.year) (pos d.month) (pos d.day) local.date
-    → IsHms (pos c.hour) (pos c.minute) (pos c.second) (pos 0) local.time → civil_nanos local -ℤ nanos_of_seconds offset ≡ civil_seconds d c offset *ℤ pos 1_000_000_000
+pub local_nanos : (local : DateTime) (d : DateFields) (c : ClockFields) (offset : ℤ)
+    → IsYmd (pos d.year) (pos d.month) (pos d.day) local.date
+    → IsHms (pos c.hour) (pos c.minute) (pos c.second) (pos 0) local.time
+    → civil_nanos local -ℤ nanos_of_seconds offset ≡ civil_seconds d c offset *ℤ pos 1_000_000_000
 local_nanos local d c offset date time =
     let day = epoch_day_of local.date (pos d.year) (pos d.month) (pos d.day) date in
     omega (arith, signed_arith, civil_nanos-parts local, day, time.0, time.1, time.2, time.3)
 
 -- the same in seconds, as the datetime says them
-pub local_seconds : (local : DateTime) (d : DateFields) (c : ClockFields) (offset : ℤ) → IsYmd (pos d.year) (pos d.month) (pos d.day) local.date
+pub local_seconds : (local : DateTime) (d : DateFields) (c : ClockFields) (offset : ℤ)
+    → IsYmd (pos d.year) (pos d.month) (pos d.day) local.date
     → IsHms (pos c.hour) (pos c.minute) (pos c.second) (pos 0) local.time → shown_seconds local -ℤ offset ≡ civil_seconds d c offset
 unfolding shown_seconds
 local_seconds local d c offset date time = grind (arith, epoch_day_of, signed_arith)
@@ -79,15 +82,18 @@ refused true true true s h = absurd (h refl)
 refused a b c s h = refl
 
 pub no_date_or_clock : (d : DateFields) (c : ClockFields) (offset : ℤ) → d.year ≤ 9999
-    → (IsDate (pos d.year) (pos d.month) (pos d.day) × IsTime (pos c.hour) (pos c.minute) (pos c.second) (pos 0) → ⊥) → None ≡ civil_instant d c offset
+    → (IsDate (pos d.year) (pos d.month) (pos d.day) × IsTime (pos c.hour) (pos c.minute) (pos c.second) (pos 0) → ⊥)
+    → None ≡ civil_instant d c offset
 unfolding civil_instant
 no_date_or_clock d c offset y none = grind (arith, refused, both, date_holds, clock_holds)
 
-pub no_instant : (d : DateFields) (c : ClockFields) (offset : ℤ) → (IsInstantSeconds (civil_seconds d c offset) → ⊥) → None ≡ civil_instant d c offset
+pub no_instant : (d : DateFields) (c : ClockFields) (offset : ℤ) → (IsInstantSeconds (civil_seconds d c offset) → ⊥)
+    → None ≡ civil_instant d c offset
 unfolding civil_instant
 no_instant d c offset none = grind (arith, refused, instant_holds, both)
 
-pub an_instant : (d : DateFields) (c : ClockFields) (offset s : ℤ) → IsDate (pos d.year) (pos d.month) (pos d.day) → IsTime (pos c.hour) (pos c.minute) (pos c.second) (pos 0)
+pub an_instant : (d : DateFields) (c : ClockFields) (offset s : ℤ) → IsDate (pos d.year) (pos d.month) (pos d.day)
+    → IsTime (pos c.hour) (pos c.minute) (pos c.second) (pos 0)
     → IsInstantSeconds (civil_seconds d c offset) → s ≡ civil_seconds d c offset → Some s ≡ civil_instant d c offset
 unfolding civil_instant
 an_instant d c offset s date time instant is = grind (arith, join, date_from, clock_from, instant_from)

@@ -1,6 +1,7 @@
 -- A text that is a layout's pieces is read, and what is read is a layout's pieces.
 use Rattle.std.proofs.Common.{arith}
-use Rattle.std.proofs.Common.{◌≡◌, ◌∙◌, ℕ, ℤ, Bool, List, [], ◌∷◌, ◌++◌, refl, ap, sym, subst, Option, Some, None, inl, inr, ◌⊎◌, append-nil}
+use Rattle.std.proofs.Common.{◌≡◌, ◌∙◌, ℕ, ℤ, Bool, List, [], ◌∷◌, ◌++◌, refl, ap, sym, subst, Option, Some, None, inl, inr, ◌⊎◌}
+use Rattle.std.proofs.Common.{append-nil}
 use Rattle.std.proofs.lemmas.Option.{same_Some as some_same}
 use Rattle.std.specs.Prelude.{true, is_some, unwrap_or}
 use Rattle.std.specs.Char.{is_ascii_digit}
@@ -8,14 +9,24 @@ use Rattle.gix_date.specs.Families.Answer.{FamilyAnswer}
 use Rattle.gix_date.specs.Text.Characters.{letter_t, is_space}
 use Rattle.gix_date.specs.Fields.FieldTexts.{IsField, AreSpaces, IsDayName, IsMonthName, IsDayPrefix}
 use Rattle.gix_date.specs.Text.Front.{skip_char, ◌>>=◌}
-use Rattle.gix_date.specs.Fields.Layout.{LocalTime, Piece, DayName, Rfc2822DayName, MonthName, Day, Year, PlainDate, Clock, Rfc2822Clock, Spaces, LetterT, Offset, ColonOffset, Rfc2822Offset, read_piece, read_pieces, nothing_read, layout_answer, IsPiece, ArePieces}
+use Rattle.gix_date.specs.Fields.Layout.{LocalTime, Piece, DayName, Rfc2822DayName, MonthName, Day, Year, PlainDate, Clock, Rfc2822Clock}
+use Rattle.gix_date.specs.Fields.Layout.{Spaces, LetterT, Offset, ColonOffset, Rfc2822Offset, read_piece, read_pieces, nothing_read}
+use Rattle.gix_date.specs.Fields.Layout.{layout_answer, IsPiece, ArePieces}
 use Rattle.gix_date.specs.Text.Numbers.{read_field, read_year}
-use Rattle.gix_date.specs.Fields.DateFields.{skip_day_name, skip_spaces, skip_weekday, read_month, read_plain_date, read_clock, read_rfc2822_clock}
+use Rattle.gix_date.specs.Fields.DateFields.{skip_day_name, skip_spaces, skip_weekday, read_month, read_plain_date, read_clock}
+use Rattle.gix_date.specs.Fields.DateFields.{read_rfc2822_clock}
 use Rattle.gix_date.specs.Fields.DateOffsets.{compact_offset, strict_offset, rfc2822_zone, rfc2822_offset, named_zone}
 use Rattle.gix_date.specs.Fields.Offsets.{offset_fields, read_sign}
-use Rattle.gix_date.specs.Families.Patterns.{short_layout, rfc2822_layout, iso8601_layout, iso8601_strict_layout, gitoxide_layout, default_layout, time_answer, real_day_answer, short_answer, rfc2822_answer, iso8601_answer, iso8601_strict_answer, gitoxide_answer, default_answer, IsMeaning, Accepts}
-use Rattle.gix_date.proofs.Fields.FieldsRead.{Begins, BeginsNot, NoColon, begins-append, begins_not, digit-no-space, field-begins, field-read, year-begins, year-read, spaces-read, month-read, weekday-read, date-read, prefix-read, no-prefix, clock-read, rfc2822-clock-read, compact-no-space, rfc2822-no-space, strict-no-digit, clock-begins, rfc2822-clock-begins, digit-front, name-front, gap-front, gap-no-colon}
-use Rattle.gix_date.proofs.Fields.FieldsTaken.{went, TookFront, after-taken, field-taken, year-taken, spaces-taken, month-taken, weekday-taken, prefix-taken, date-taken, clock-taken, rfc2822-clock-taken}
+use Rattle.gix_date.specs.Families.Patterns.{short_layout, rfc2822_layout, iso8601_layout, iso8601_strict_layout, gitoxide_layout}
+use Rattle.gix_date.specs.Families.Patterns.{default_layout, time_answer, real_day_answer, short_answer, rfc2822_answer, iso8601_answer}
+use Rattle.gix_date.specs.Families.Patterns.{iso8601_strict_answer, gitoxide_answer, default_answer, IsMeaning, Accepts}
+use Rattle.gix_date.proofs.Fields.FieldsRead.{Begins, BeginsNot, NoColon, begins-append, begins_not, digit-no-space, field-begins}
+use Rattle.gix_date.proofs.Fields.FieldsRead.{field-read, year-begins, year-read, spaces-read, month-read, weekday-read, date-read}
+use Rattle.gix_date.proofs.Fields.FieldsRead.{prefix-read, no-prefix, clock-read, rfc2822-clock-read, compact-no-space, rfc2822-no-space}
+use Rattle.gix_date.proofs.Fields.FieldsRead.{strict-no-digit, clock-begins, rfc2822-clock-begins, digit-front, name-front, gap-front}
+use Rattle.gix_date.proofs.Fields.FieldsRead.{gap-no-colon}
+use Rattle.gix_date.proofs.Fields.FieldsTaken.{went, TookFront, after-taken, field-taken, year-taken, spaces-taken, month-taken}
+use Rattle.gix_date.proofs.Fields.FieldsTaken.{weekday-taken, prefix-taken, date-taken, clock-taken, rfc2822-clock-taken}
 
 -- the second time, with what a piece tells of the first
 abbrev pub set_piece : Piece → LocalTime → LocalTime → LocalTime
@@ -86,12 +97,17 @@ offset zone x v h = record { text = x; is = h; whole = sym (append-nil x) }
 pub piece-taken : (p : Piece) (f : LocalTime) (x : List ℕ) (y : LocalTime × List ℕ) → read_piece p f x ≡ Some y → PieceTaken p f x y
 piece-taken DayName f = taken skip_weekday (λ v. f) (λ v. v) (λ v. refl) (λ x. refl) name
 piece-taken Rfc2822DayName f = grind (arith, some_same, prefix)
-piece-taken MonthName f = taken read_month (λ v. record f { date = record f.date { month = v.0 } }) (λ v. v.1) (λ v. refl) (λ x. refl) (λ x v. month-taken x v.0 v.1)
-piece-taken Day f = taken read_field (λ v. record f { date = record f.date { day = v.0 } }) (λ v. v.1) (λ v. refl) (λ x. refl) (λ x v. field-taken x v.0 v.1)
-piece-taken Year f = taken read_year (λ v. record f { date = record f.date { year = v.0 } }) (λ v. v.1) (λ v. refl) (λ x. refl) (λ x v. year-taken x v.0 v.1)
-piece-taken PlainDate f = taken read_plain_date (λ v. record f { date = v.0 }) (λ v. v.1) (λ v. refl) (λ x. refl) (λ x v. date-taken x v.0 v.1)
+piece-taken MonthName f = taken read_month (λ v. record f { date = record f.date { month = v.0 } }) (λ v. v.1) (λ v. refl) (λ x. refl)
+    (λ x v. month-taken x v.0 v.1)
+piece-taken Day f = taken read_field (λ v. record f { date = record f.date { day = v.0 } }) (λ v. v.1) (λ v. refl) (λ x. refl)
+    (λ x v. field-taken x v.0 v.1)
+piece-taken Year f =
+    taken read_year (λ v. record f { date = record f.date { year = v.0 } }) (λ v. v.1) (λ v. refl) (λ x. refl) (λ x v. year-taken x v.0 v.1)
+piece-taken PlainDate f =
+    taken read_plain_date (λ v. record f { date = v.0 }) (λ v. v.1) (λ v. refl) (λ x. refl) (λ x v. date-taken x v.0 v.1)
 piece-taken Clock f = taken read_clock (λ v. record f { clock = v.0 }) (λ v. v.1) (λ v. refl) (λ x. refl) (λ x v. clock-taken x v.0 v.1)
-piece-taken Rfc2822Clock f = taken read_rfc2822_clock (λ v. record f { clock = v.0 }) (λ v. v.1) (λ v. refl) (λ x. refl) (λ x v. rfc2822-clock-taken x v.0 v.1)
+piece-taken Rfc2822Clock f =
+    taken read_rfc2822_clock (λ v. record f { clock = v.0 }) (λ v. v.1) (λ v. refl) (λ x. refl) (λ x v. rfc2822-clock-taken x v.0 v.1)
 piece-taken Spaces f = taken skip_spaces (λ v. f) (λ v. v) (λ v. refl) (λ x. refl) spaces-taken
 piece-taken LetterT f = taken (skip_char letter_t) (λ v. f) (λ v. v) (λ v. refl) (λ x. refl) letter
 piece-taken Offset f = taken compact_offset (λ v. record f { offset = v }) (λ v. []) (λ v. refl) (λ x. refl) (offset compact_offset)
@@ -126,9 +142,11 @@ pieces-taken (p ∷ ps) once f x y e =
     let r = went (read_piece p f x) (λ r. read_pieces ps r.0 r.1) y e in
     let one = piece-taken p f x r.0 r.1 in
     let found = r.0.0 in
-    let later : ToldOnce ps = λ t u g. (both_same (set_piece p (set_pieces ps t u) g) (set_piece p u g) (told_last ps t u g) (told_first ps t u g) (once t u g)).1 in
+    let later : ToldOnce ps = λ t u g.
+    (both_same (set_piece p (set_pieces ps t u) g) (set_piece p u g) (told_last ps t u g) (told_first ps t u g) (once t u g)).1 in
     let more = pieces-taken ps later found r.0.1 y r.2 in
-    let first = (both_same (set_piece p (set_pieces ps y found) f) (set_piece p found f) (told_last ps y found f) (told_first ps y found f) (once y found f)).0 in
+    let first = (both_same (set_piece p (set_pieces ps y found) f) (set_piece p found f) (told_last ps y found f) (told_first ps y found f)
+    (once y found f)).0 in
     let part : set_piece p y f ≡ found = ap (λ (t : LocalTime). set_piece p t f) (sym more.made) ∙ first ∙ one.kept in
     record {
       are = record { front = one.text; rest = r.0.1; whole = one.whole; is = one.is y part; more = more.are };
@@ -259,7 +277,8 @@ pieces-read [] r t f text h = rw h refl
 pieces-read (p ∷ ps) r t f text h =
     let more = after-piece p ps t h.rest r h.more in
     ap (read_pieces (p ∷ ps) f) h.whole
-    ∙ goes_on (read_piece p f (h.front ++ h.rest)) (set_piece p t f, h.rest) (λ r. read_pieces ps r.0 r.1) (piece-read p t f h.front h.rest h.is more.0)
+    ∙ goes_on (read_piece p f (h.front ++ h.rest)) (set_piece p t f, h.rest) (λ r. read_pieces ps r.0 r.1)
+    (piece-read p t f h.front h.rest h.is more.0)
     ∙ pieces-read ps more.1 t (set_piece p t f) h.rest h.more
 
 given : {A : Type 0} (found : Option A) → is_some found ≡ true → A
@@ -327,7 +346,8 @@ rfc2822-front text answer e =
       rest = month.rest;
       number = a.time.date.day;
       month_number = a.time.date.month;
-      whole = h.whole ∙ ap (λ (t : List ℕ). h.front ++ t) (day.whole ∙ ap (λ (t : List ℕ). day.front ++ t) (gap.whole ∙ ap (λ (t : List ℕ). gap.front ++ t) month.whole));
+      whole = h.whole ∙ ap (λ (t : List ℕ). h.front ++ t)
+          (day.whole ∙ ap (λ (t : List ℕ). day.front ++ t) (gap.whole ∙ ap (λ (t : List ℕ). gap.front ++ t) month.whole));
       is_prefix = h.is;
       is_day = day.is;
       is_gap = gap.is;

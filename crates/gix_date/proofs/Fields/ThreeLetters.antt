@@ -1,5 +1,6 @@
 -- Three letters tell the name that they are, and no other three bytes tell one.
-use Rattle.std.proofs.Common.{◌≡◌, ◌∙◌, ◌<◌, ◌+◌, ℕ, suc, zero, Bool, true, false, cond, List, [], ◌∷◌, length, get_or, option_map, is_some, Option, Some, None, IfSome, refl, sym, ap, subst, arith}
+use Rattle.std.proofs.Common.{◌≡◌, ◌∙◌, ◌<◌, ◌+◌, ℕ, suc, zero, Bool, true, false, cond, List, [], ◌∷◌, length, get_or, option_map, is_some}
+use Rattle.std.proofs.Common.{Option, Some, None, IfSome, refl, sym, ap, subst, arith}
 use Rattle.std.specs.Char.{to_ascii_lowercase, is_ascii_alphabetic}
 use Rattle.std.specs.List.{position, position_or_len, list_any, list_all}
 use Rattle.std.specs.Prelude.{◌==◌, ◌||◌, not, nat_lt}
@@ -40,10 +41,12 @@ unfolding is_weekday day_named
 weekday_is a b c = ap is_some (day_is_named a b c) ∙ some-any (is_name (a ∷ b ∷ c ∷ [])) day_names
 
 -- a name of letters is told by letters alone
-like-letter : (a x : ℕ) → (to_ascii_lowercase a == to_ascii_lowercase x) ≡ true → is_ascii_alphabetic x ≡ true → is_ascii_alphabetic a ≡ true
+like-letter : (a x : ℕ) → (to_ascii_lowercase a == to_ascii_lowercase x) ≡ true → is_ascii_alphabetic x ≡ true
+    → is_ascii_alphabetic a ≡ true
 like-letter a x e h = grind (arith, nat_tests)
 
-like-letters : (a b c : ℕ) (name : List ℕ) → is_name (a ∷ b ∷ c ∷ []) name ≡ true → list_all is_ascii_alphabetic name ≡ true → AreThreeLetters (a ∷ b ∷ c ∷ [])
+like-letters : (a b c : ℕ) (name : List ℕ) → is_name (a ∷ b ∷ c ∷ []) name ≡ true → list_all is_ascii_alphabetic name ≡ true
+    → AreThreeLetters (a ∷ b ∷ c ∷ [])
 like-letters a b c [] e h = absurd cc
 like-letters a b c (x ∷ []) e h = absurd (let p = both (to_ascii_lowercase a == to_ascii_lowercase x) false e in cc)
 like-letters a b c (x ∷ y ∷ []) e h = grind (arith, both)
@@ -55,7 +58,8 @@ all-at p [] k h l = absurd (omega (arith, l))
 all-at p (x ∷ xs) zero h l = (both (p x) (list_all p xs) h).0
 all-at p (x ∷ xs) (suc k) h l = all-at p xs k (both (p x) (list_all p xs) h).1 (omega (arith, l))
 
-letters-at : (a b c : ℕ) (names : List (List ℕ)) (k : ℕ) → list_all (list_all is_ascii_alphabetic) names ≡ true → position (is_name (a ∷ b ∷ c ∷ [])) names ≡ Some k
+letters-at : (a b c : ℕ) (names : List (List ℕ)) (k : ℕ) → list_all (list_all is_ascii_alphabetic) names ≡ true
+    → position (is_name (a ∷ b ∷ c ∷ [])) names ≡ Some k
     → AreThreeLetters (a ∷ b ∷ c ∷ [])
 letters-at a b c names k h e =
     let at = position-Some (is_name (a ∷ b ∷ c ∷ [])) names k [] e in
@@ -65,7 +69,8 @@ pub month_has_letters : (a b c : ℕ) → is_some (month_told (a ∷ b ∷ c ∷
 unfolding month_named
 month_has_letters a b c e = by (position (is_name (a ∷ b ∷ c ∷ [])) month_names) refl (ap is_some (sym (month-is a b c)) ∙ e)
   where
-    by : (o : Option ℕ) → position (is_name (a ∷ b ∷ c ∷ [])) month_names ≡ o → is_some (option_map (λ place. place + 1) o) ≡ true → AreThreeLetters (a ∷ b ∷ c ∷ [])
+    by : (o : Option ℕ) → position (is_name (a ∷ b ∷ c ∷ [])) month_names ≡ o → is_some (option_map (λ place. place + 1) o) ≡ true
+        → AreThreeLetters (a ∷ b ∷ c ∷ [])
     by None e h = absurd cc
     by (Some k) e h = letters-at a b c month_names k refl e
 

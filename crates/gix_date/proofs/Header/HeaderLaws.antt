@@ -1,6 +1,8 @@
 -- The laws of header texts.
 use Rattle.std.proofs.lemmas.Grind.{common_steps}
-use Rattle.std.proofs.Common.{◌≡◌, ◌∙◌, ◌+◌, ◌-◌, ◌*◌, ◌/◌, ◌%◌, ◌<◌, ◌≤◌, ◌^◌, ℕ, ℤ, pos, negsuc, Bool, true, false, cond, List, [], ◌∷◌, ◌++◌, length, take, drop, get_or, refl, ap, ap₂, sym, subst, Some, None, arith, inl, inr, Option, unsigned_abs, FitsSigned, w64, zero, suc, ◌≢◌, add-one, IsSomeAnd, IsUtf8}
+use Rattle.std.proofs.Common.{◌≡◌, ◌∙◌, ◌+◌, ◌-◌, ◌*◌, ◌/◌, ◌%◌, ◌<◌, ◌≤◌, ◌^◌, ℕ, ℤ, pos, negsuc, Bool, true, false, cond, List, [], ◌∷◌}
+use Rattle.std.proofs.Common.{◌++◌, length, take, drop, get_or, refl, ap, ap₂, sym, subst, Some, None, arith, inl, inr, Option}
+use Rattle.std.proofs.Common.{unsigned_abs, FitsSigned, w64, zero, suc, ◌≢◌, add-one, IsSomeAnd, IsUtf8}
 use Rattle.std.proofs.lemmas.Option.{cond_some as guard, same_Some as same_some}
 use Rattle.std.proofs.Math.Seq.{take-append_seam}
 use Rattle.std.proofs.lemmas.Bool.{and_parts as both, not-true as not_false, ne_eqb as other, false_from_ne_true as false-unless}
@@ -22,13 +24,15 @@ use Rattle.std.specs.Str.{bytes_eq}
 use Rattle.std.specs.Str.Parse.{without_leading_sign, signed_digits_value, digits_value}
 use Rattle.gix_date.specs.Fields.FieldTexts.{IsSign, IsDigit}
 use Rattle.gix_date.specs.declared.parsing.headers.HeaderKind.TheVariants.{Canonical, Lenient, NoHeader}
-use Rattle.gix_date.specs.Header.Canonical.{header_kind, kind_of, is_canonical_header, is_canonical_offset, is_decimal_text, has_whole_minutes}
+use Rattle.gix_date.specs.Header.Canonical.{header_kind, kind_of, is_canonical_header, is_canonical_offset, is_decimal_text}
+use Rattle.gix_date.specs.Header.Canonical.{has_whole_minutes}
 use Rattle.gix_date.specs.Text.Characters.{space, plus, minus, is_space, has_colon}
 use Rattle.gix_date.specs.Header.Laws.{ComesBack}
 use Rattle.gix_date.specs.Header.Reading.{header_time, time_of_words, header_seconds}
 use Rattle.gix_date.specs.Text.SpaceWords.{space_words}
 use Rattle.gix_date.specs.Header.Text.{header_text, is_header_text_of}
-use Rattle.gix_date.specs.Fields.Offsets.{compact_offset_text, offset_sign, hours_and_minutes, offset_fields, offset_of, signed, read_sign, last_pair}
+use Rattle.gix_date.specs.Fields.Offsets.{compact_offset_text, offset_sign, hours_and_minutes, offset_fields, offset_of, signed, read_sign}
+use Rattle.gix_date.specs.Fields.Offsets.{last_pair}
 use Rattle.gix_date.specs.Text.Numbers.{int_value, decimal_text, two_digits, read_two_digits}
 use Rattle.gix_date.specs.Text.Front.{skip_char}
 use Rattle.gix_date.specs.declared.parsing.offset.OffsetFields.{OffsetFields}
@@ -39,7 +43,8 @@ use Rattle.gix_date.specs.declared.time.TheConstants.{HUNDRED_HOURS}
 use Rattle.gix_date.proofs.Fields.FieldsRead.{is-space}
 use Rattle.gix_date.proofs.Text.Ints.{own, int_value_from, fits_from, each_of}
 use Rattle.gix_date.proofs.Fields.FieldsTaken.{time_at, went, none_is}
-use Rattle.gix_date.proofs.Fast.FastHeaders.{is_number_byte, usual-header, int-taken, offset-taken, IsOffsetText, AreNumberBytes, are_ascii, IsNumber, int-number, offset-number}
+use Rattle.gix_date.proofs.Fast.FastHeaders.{is_number_byte, usual-header, int-taken, offset-taken, IsOffsetText, AreNumberBytes, are_ascii}
+use Rattle.gix_date.proofs.Fast.FastHeaders.{IsNumber, int-number, offset-number}
 
 -- A canonical header, taken apart.
 from_test : {A : Type 0} (r : Option A) (test : A → Bool) → option_map_or test r false ≡ true → (x : A) × (r ≡ Some x) × (test x ≡ true)
@@ -63,7 +68,8 @@ no_fields : offset_fields [] ≡ None
 unfolding offset_fields read_sign skip_char
 no_fields = refl
 
-fields-within : (text : List ℕ) (f : OffsetFields) → offset_fields (after_first is_space text) ≡ Some f → position_or_len is_space text < length text
+fields-within : (text : List ℕ) (f : OffsetFields) → offset_fields (after_first is_space text) ≡ Some f
+    → position_or_len is_space text < length text
 fields-within text f e = grind (arith, drop_of_length-le, no_fields)
 
 pub canonical_taken : (text : List ℕ) → is_canonical_header text ≡ true → IsCanonical text
@@ -107,7 +113,8 @@ hours-back h m small = grind (arith)
 plus-sign : (n : ℕ) → offset_sign (pos n) ≡ plus
 plus-sign n = let no : int_lt (pos n) (pos 0) ≡ false = grind (arith, ints) in rw no refl
 
-zone-by : (n : ℕ) (mark : ℕ) (sign : Sign) → IsSign mark sign → (sign ≡ Minus → 0 < n) → compact_offset_text (signed sign n) ≡ mark ∷ hours_and_minutes n
+zone-by : (n : ℕ) (mark : ℕ) (sign : Sign) → IsSign mark sign → (sign ≡ Minus → 0 < n)
+    → compact_offset_text (signed sign n) ≡ mark ∷ hours_and_minutes n
 zone-by n mark sign (inl p) some = rw (p.0, p.1, plus-sign n) refl
 zone-by zero mark sign (inr p) some = absurd (omega (arith, some p.1))
 zone-by (suc n) mark sign (inr p) some = rw (p.0, p.1) refl
@@ -118,25 +125,30 @@ whole_distance f = 3600 * f.hours + 60 * f.minutes
 distance-is : (f : OffsetFields) → f.seconds ≡ None → offset_of f ≡ signed f.sign (whole_distance f)
 distance-is f e = let n : 3600 * f.hours + 60 * f.minutes + 0 ≡ whole_distance f = omega arith in rw (e, n) refl
 
-minus-zero : (x : List ℕ) (f : OffsetFields) (o : IsOffsetText x f) → f.seconds ≡ None → f.sign ≡ Minus → whole_distance f ≡ 0 → x ≡ codes "-0000"
+minus-zero : (x : List ℕ) (f : OffsetFields) (o : IsOffsetText x f) → f.seconds ≡ None → f.sign ≡ Minus → whole_distance f ≡ 0
+    → x ≡ codes "-0000"
 minus-zero x f o e s z = grind (arith, digit_low)
 
-zone-back : (x : List ℕ) (f : OffsetFields) → IsOffsetText x f → f.minutes < 60 → f.seconds ≡ None → bytes_eq x (codes "-0000") ≡ false → compact_offset_text (offset_of f) ≡ x
+zone-back : (x : List ℕ) (f : OffsetFields) → IsOffsetText x f → f.minutes < 60 → f.seconds ≡ None → bytes_eq x (codes "-0000") ≡ false
+    → compact_offset_text (offset_of f) ≡ x
 zone-back x f o small e other =
     let some : f.sign ≡ Minus → 0 < whole_distance f = λ s.
-    let nonzero : whole_distance f ≡ 0 → ⊥ = λ z. (let clash : true ≡ false = sym ((bytes_eq-Decides x (codes "-0000")).1 (minus-zero x f o e s z)) ∙ other in cc) in
+    let nonzero : whole_distance f ≡ 0
+    → ⊥ = λ z. (let clash : true ≡ false = sym ((bytes_eq-Decides x (codes "-0000")).1 (minus-zero x f o e s z)) ∙ other in cc) in
     omega (arith, nonzero) in
     ap compact_offset_text (distance-is f e)
     ∙ zone-by (whole_distance f) o.mark f.sign o.is_mark some
     ∙ ap (λ (t : List ℕ). o.mark ∷ t) (hours-back f.hours f.minutes small)
-    ∙ ap₂ (λ (h m : List ℕ). o.mark ∷ (h ++ m)) (pair-back o.h0 o.h1 f.hours o.is_h0 o.is_h1 o.hours) (pair-back o.m0 o.m1 f.minutes o.is_m0 o.is_m1 o.minutes)
+    ∙ ap₂ (λ (h m : List ℕ). o.mark ∷ (h ++ m)) (pair-back o.h0 o.h1 f.hours o.is_h0 o.is_h1 o.hours)
+    (pair-back o.m0 o.m1 f.minutes o.is_m0 o.is_m1 o.minutes)
     ∙ sym (o.whole ∙ rw (o.is_last.none e) refl)
 
 pub abs-signed : (s : Sign) (n : ℕ) → unsigned_abs (signed s n) ≡ n
 abs-signed Minus zero = refl
 abs-signed x n = refl
 
-pub written-by : (t : Time) → unsigned_abs t.offset < 360000 → header_text t ≡ Some (decimal_text t.seconds ++ (space ∷ compact_offset_text t.offset))
+pub written-by : (t : Time) → unsigned_abs t.offset < 360000
+    → header_text t ≡ Some (decimal_text t.seconds ++ (space ∷ compact_offset_text t.offset))
 unfolding header_text
 written-by t h = let yes : nat_lt (unsigned_abs t.offset) HUNDRED_HOURS ≡ true = grind (arith, nat_tests, h) in rw yes refl
 
@@ -147,7 +159,8 @@ pub canonical_back : (text : List ℕ) → IsCanonical text → ComesBack text
 canonical_back text k =
     let f = k.fields in
     let o = offset-taken k.zone f k.is_jiff_offset in
-    let abs : unsigned_abs (offset_of f) ≡ whole_distance f = ap (λ (z : ℤ). unsigned_abs z) (distance-is f k.none) ∙ abs-signed f.sign (whole_distance f) in
+    let abs : unsigned_abs (offset_of f) ≡ whole_distance f = ap (λ (z : ℤ). unsigned_abs z) (distance-is f k.none)
+    ∙ abs-signed f.sign (whole_distance f) in
     let short : unsigned_abs (offset_of f) < 360000 = omega (arith, abs, hours-small k.zone f o, k.minutes) in
     record {
       time = record { seconds = k.seconds; offset = offset_of f };
@@ -198,7 +211,8 @@ sign_for true = Minus
 sign_for false = Plus
 
 abbrev pub written_fields : ℤ → OffsetFields
-written_fields o = record { sign = sign_for (int_lt o (pos 0)); hours = unsigned_abs o / 3600; minutes = unsigned_abs o % 3600 / 60; seconds = None }
+written_fields o =
+    record { sign = sign_for (int_lt o (pos 0)); hours = unsigned_abs o / 3600; minutes = unsigned_abs o % 3600 / 60; seconds = None }
 
 pub sign-read : (b : Bool) (t : List ℕ) → read_sign ((if b then minus else plus) ∷ t) ≡ Some (sign_for b, t)
 unfolding read_sign skip_char
@@ -228,7 +242,8 @@ pub front-of : (a b : List ℕ) → AreNumberBytes a → before_first is_space (
 front-of a b h = ap (λ (n : ℕ). take n (a ++ (space ∷ b))) (space-at a b h) ∙ take-append_seam a (space ∷ b)
 
 pub after-of : (a b : List ℕ) → AreNumberBytes a → after_first is_space (a ++ (space ∷ b)) ≡ b
-after-of a b h = ap (λ (n : ℕ). drop (n + 1) (a ++ (space ∷ b))) (space-at a b h) ∙ ap (λ (n : ℕ). drop n (a ++ (space ∷ b))) (add-one (length a)) ∙ one_after a
+after-of a b h = ap (λ (n : ℕ). drop (n + 1) (a ++ (space ∷ b))) (space-at a b h)
+    ∙ ap (λ (n : ℕ). drop n (a ++ (space ∷ b))) (add-one (length a)) ∙ one_after a
   where
     one_after : (a : List ℕ) → drop (suc (length a)) (a ++ (space ∷ b)) ≡ b
     one_after [] = refl
@@ -238,13 +253,15 @@ pub number-bytes : (w : List ℕ) → IsNumber w → AreNumberBytes w
 number-bytes w k = subst AreNumberBytes (sym k.whole) k.bytes
 
 pub two-utf8 : (front zone : List ℕ) → AreNumberBytes front → AreNumberBytes zone → IsUtf8 (front ++ (space ∷ zone))
-two-utf8 front zone a b = IsUtf8-from_ascii (front ++ (space ∷ zone)) (IsAscii-append front (space ∷ zone) (are_ascii front a) (IsAscii-cons space zone (omega arith) (are_ascii zone b)))
+two-utf8 front zone a b = IsUtf8-from_ascii (front ++ (space ∷ zone))
+    (IsAscii-append front (space ∷ zone) (are_ascii front a) (IsAscii-cons space zone (omega arith) (are_ascii zone b)))
 
 -- a canonical header is text
 pub canonical-utf8 : (text : List ℕ) → is_canonical_header text ≡ true → IsUtf8 text
 canonical-utf8 text e =
     let k = canonical_taken text e in
-    subst IsUtf8 (sym k.whole) (two-utf8 k.front k.zone (number-bytes k.front (int-number k.front k.seconds k.is_seconds)) (number-bytes k.zone (offset-number k.zone k.fields k.is_jiff_offset)))
+    subst IsUtf8 (sym k.whole) (two-utf8 k.front k.zone (number-bytes k.front (int-number k.front k.seconds k.is_seconds))
+    (number-bytes k.zone (offset-number k.zone k.fields k.is_jiff_offset)))
 
 pub small-minutes : (n : ℕ) → nat_lt (n % 3600 / 60) 60 ≡ true
 small-minutes n = let h : n % 3600 / 60 < 60 = omega arith in grind (arith, nat_tests)
@@ -257,30 +274,37 @@ unfolding offset_fields read_sign skip_char read_two_digits last_pair
 read-minus-zero = refl
 
 -- an offset that is what its text says is not written `-0000`
-no-minus-zero : (o : ℤ) → unsigned_abs o < 360000 → o ≡ offset_of (written_fields o) → bytes_eq (compact_offset_text o) (codes "-0000") ≡ false
+no-minus-zero : (o : ℤ) → unsigned_abs o < 360000 → o ≡ offset_of (written_fields o)
+    → bytes_eq (compact_offset_text o) (codes "-0000") ≡ false
 no-minus-zero o h e = grind (arith, false-unless, bytes_eq-Decides, same_some, zone-read, read-minus-zero)
 
-pub canonical-parts : (x front zone : List ℕ) → before_first is_space x ≡ front → after_first is_space x ≡ zone → is_decimal_text front ≡ true → is_canonical_offset zone ≡ true → is_canonical_header x ≡ true
+pub canonical-parts : (x front zone : List ℕ) → before_first is_space x ≡ front → after_first is_space x ≡ zone
+    → is_decimal_text front ≡ true → is_canonical_offset zone ≡ true → is_canonical_header x ≡ true
 canonical-parts x front zone e f d o = ap₂ (λ (a b : Bool). a && b) (ap is_decimal_text e ∙ d) (ap is_canonical_offset f ∙ o)
 
 pub decimal-test : (w : List ℕ) (z : ℤ) → int_value w ≡ Some z → decimal_text z ≡ w → is_decimal_text w ≡ true
 decimal-test w z e h = rw e ((bytes_eq-Decides (decimal_text z) w).1 h)
 
-offset-test : (o : ℤ) → unsigned_abs o < 360000 → bytes_eq (compact_offset_text o) (codes "-0000") ≡ false → is_canonical_offset (compact_offset_text o) ≡ true
+offset-test : (o : ℤ) → unsigned_abs o < 360000 → bytes_eq (compact_offset_text o) (codes "-0000") ≡ false
+    → is_canonical_offset (compact_offset_text o) ≡ true
 offset-test o h e = grind (arith, zone-read, small-minutes)
 
 -- What is written is canonical, where it is read as the time that was written.
-written-canonical : (t : Time) → header_time (decimal_text t.seconds ++ (space ∷ compact_offset_text t.offset)) ≡ Some t → unsigned_abs t.offset < 360000 → is_canonical_header (decimal_text t.seconds ++ (space ∷ compact_offset_text t.offset)) ≡ true
+written-canonical : (t : Time) → header_time (decimal_text t.seconds ++ (space ∷ compact_offset_text t.offset)) ≡ Some t
+    → unsigned_abs t.offset < 360000 → is_canonical_header (decimal_text t.seconds ++ (space ∷ compact_offset_text t.offset)) ≡ true
 written-canonical t e h =
     let front = decimal_text t.seconds in
     let zone = compact_offset_text t.offset in
     let int = decimal-int t.seconds (header-fits (front ++ (space ∷ zone)) t e) in
     let fields = zone-read t.offset h in
     let bytes = number-bytes front (int-number front t.seconds int) in
-    let offset : t.offset ≡ offset_of (written_fields t.offset) = ap (λ (t : Time). t.offset) (same_some t _ (sym e ∙ usual-header front zone t.seconds (written_fields t.offset) int fields)) in
-    canonical-parts (front ++ (space ∷ zone)) front zone (front-of front zone bytes) (after-of front zone bytes) (decimal-test front t.seconds int refl) (offset-test t.offset h (no-minus-zero t.offset h offset))
+    let offset : t.offset ≡ offset_of (written_fields t.offset) =
+    ap (λ (t : Time). t.offset) (same_some t _ (sym e ∙ usual-header front zone t.seconds (written_fields t.offset) int fields)) in
+    canonical-parts (front ++ (space ∷ zone)) front zone (front-of front zone bytes) (after-of front zone bytes)
+    (decimal-test front t.seconds int refl) (offset-test t.offset h (no-minus-zero t.offset h offset))
 
-written-taken : (t : Time) (text : List ℕ) → header_text t ≡ Some text → (unsigned_abs t.offset < 360000) × (decimal_text t.seconds ++ (space ∷ compact_offset_text t.offset) ≡ text)
+written-taken : (t : Time) (text : List ℕ) → header_text t ≡ Some text
+    → (unsigned_abs t.offset < 360000) × (decimal_text t.seconds ++ (space ∷ compact_offset_text t.offset) ≡ text)
 unfolding header_text
 written-taken t text e = grind (arith, guard, nat_tests)
 
@@ -291,7 +315,8 @@ comes_back_canonical text k = grind (arith, written-taken, written-canonical)
 abbrev pub whole_minutes : ℤ → ℕ
 whole_minutes o = unsigned_abs o / 60
 
-zone-of-minutes : (a b : ℤ) → int_lt a (pos 0) ≡ int_lt b (pos 0) → whole_minutes a ≡ whole_minutes b → compact_offset_text a ≡ compact_offset_text b
+zone-of-minutes : (a b : ℤ) → int_lt a (pos 0) ≡ int_lt b (pos 0) → whole_minutes a ≡ whole_minutes b
+    → compact_offset_text a ≡ compact_offset_text b
 zone-of-minutes a b s m = grind (arith)
 
 sign-back : (a b : Bool) → sign_for a ≡ sign_for b → a ≡ b
@@ -299,27 +324,32 @@ sign-back true false e = cc
 sign-back false true e = cc
 sign-back a b e = refl
 
-minutes-of-fields : (a b : ℤ) → written_fields a ≡ written_fields b → (int_lt a (pos 0) ≡ int_lt b (pos 0)) × (whole_minutes a ≡ whole_minutes b)
+minutes-of-fields : (a b : ℤ) → written_fields a ≡ written_fields b
+    → (int_lt a (pos 0) ≡ int_lt b (pos 0)) × (whole_minutes a ≡ whole_minutes b)
 minutes-of-fields a b e = grind (arith, sign-back)
 
-pub alike_from : (t r : Time) → unsigned_abs t.offset < 360000 → unsigned_abs r.offset < 360000 → t.seconds ≡ r.seconds → int_lt t.offset (pos 0) ≡ int_lt r.offset (pos 0) → whole_minutes t.offset ≡ whole_minutes r.offset → header_text t ≡ header_text r
+pub alike_from : (t r : Time) → unsigned_abs t.offset < 360000 → unsigned_abs r.offset < 360000 → t.seconds ≡ r.seconds
+    → int_lt t.offset (pos 0) ≡ int_lt r.offset (pos 0) → whole_minutes t.offset ≡ whole_minutes r.offset → header_text t ≡ header_text r
 alike_from t r h k s n m = grind (arith, written-by, zone-of-minutes)
 
-pub alike_to : (t r : Time) → FitsSigned w64 t.seconds → FitsSigned w64 r.seconds → unsigned_abs t.offset < 360000 → unsigned_abs r.offset < 360000 → header_text t ≡ header_text r
+pub alike_to : (t r : Time) → FitsSigned w64 t.seconds → FitsSigned w64 r.seconds → unsigned_abs t.offset < 360000
+    → unsigned_abs r.offset < 360000 → header_text t ≡ header_text r
     → (t.seconds ≡ r.seconds) × (int_lt t.offset (pos 0) ≡ int_lt r.offset (pos 0)) × (whole_minutes t.offset ≡ whole_minutes r.offset)
 alike_to t r f g h k e =
     let a = decimal_text t.seconds in
     let b = decimal_text r.seconds in
     let x = compact_offset_text t.offset in
     let y = compact_offset_text r.offset in
-    let same : a ++ (space ∷ x) ≡ b ++ (space ∷ y) = same_some (a ++ (space ∷ x)) (b ++ (space ∷ y)) (sym (written-by t h) ∙ e ∙ written-by r k) in
+    let same : a ++ (space ∷ x) ≡ b ++ (space ∷ y) =
+    same_some (a ++ (space ∷ x)) (b ++ (space ∷ y)) (sym (written-by t h) ∙ e ∙ written-by r k) in
     let int_a = decimal-int t.seconds f in
     let int_b = decimal-int r.seconds g in
     let bytes_a = number-bytes a (int-number a t.seconds int_a) in
     let bytes_b = number-bytes b (int-number b r.seconds int_b) in
     let fronts : a ≡ b = sym (front-of a x bytes_a) ∙ ap (before_first is_space) same ∙ front-of b y bytes_b in
     let zones : x ≡ y = sym (after-of a x bytes_a) ∙ ap (after_first is_space) same ∙ after-of b y bytes_b in
-    let fields : written_fields t.offset ≡ written_fields r.offset = same_some _ _ (sym (zone-read t.offset h) ∙ ap offset_fields zones ∙ zone-read r.offset k) in
+    let fields : written_fields t.offset ≡ written_fields r.offset =
+    same_some _ _ (sym (zone-read t.offset h) ∙ ap offset_fields zones ∙ zone-read r.offset k) in
     let parts = minutes-of-fields t.offset r.offset fields in
     (same_some t.seconds r.seconds (sym int_a ∙ ap int_value fronts ∙ int_b), parts.0, parts.1)
 
@@ -328,11 +358,14 @@ pub back-to : (o : ℤ) → unsigned_abs o % 60 ≡ 0 → offset_of (written_fie
 back-to (pos n) h = grind (arith, ints)
 back-to (negsuc n) h = grind (arith)
 
-pub written_text_is_read : (t : Time) → FitsSigned w64 t.seconds → unsigned_abs t.offset < 360000 → unsigned_abs t.offset % 60 ≡ 0 → IsSomeAnd (header_text t) (λ text. header_time text ≡ Some t)
+pub written_text_is_read : (t : Time) → FitsSigned w64 t.seconds → unsigned_abs t.offset < 360000 → unsigned_abs t.offset % 60 ≡ 0
+    → IsSomeAnd (header_text t) (λ text. header_time text ≡ Some t)
 written_text_is_read t f h m =
     let front = decimal_text t.seconds in
     let zone = compact_offset_text t.offset in
-    let read : header_time (front ++ (space ∷ zone)) ≡ Some t = usual-header front zone t.seconds (written_fields t.offset) (decimal-int t.seconds f) (zone-read t.offset h) ∙ ap (λ (o : ℤ). Some (time_at t.seconds o)) (back-to t.offset m) in
+    let read : header_time (front ++ (space ∷ zone)) ≡ Some t =
+    usual-header front zone t.seconds (written_fields t.offset) (decimal-int t.seconds f) (zone-read t.offset h)
+    ∙ ap (λ (o : ℤ). Some (time_at t.seconds o)) (back-to t.offset m) in
     subst (λ (r : Option (List ℕ)). IsSomeAnd r (λ text. header_time text ≡ Some t)) (sym (written-by t h)) read
 
 -- A text that is read as a time is canonical exactly where it is what that time is written as.

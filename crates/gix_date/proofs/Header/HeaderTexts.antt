@@ -1,5 +1,6 @@
 -- How long a header text is, and where there is one.
-use Rattle.std.proofs.Common.{◌≡◌, ℕ, ◌+◌, Bool, true, false, cond, List, length, arith, length-append, refl, Some, None, Err, ℤ, pos, negsuc, ◌<◌}
+use Rattle.std.proofs.Common.{◌≡◌, ℕ, ◌+◌, Bool, true, false, cond, List, length, arith, length-append, refl, Some, None, Err, ℤ, pos}
+use Rattle.std.proofs.Common.{negsuc, ◌<◌}
 use Rattle.std.proofs.lemmas.Bool.Decides.{nat_tests}
 use Rattle.std.proofs.lemmas.Int.{ints}
 use Rattle.std.specs.Prelude.{IfSome, IsSome, unsigned_abs, nat_lt}

@@ -1,6 +1,7 @@
 -- What a time's own clock shows is what each moment of it shows.
 use Rattle.std.proofs.Common.{rules}
-use Rattle.std.proofs.Common.{◌≡◌, ◌∙◌, ◌≤◌, ◌<◌, ◌+◌, ◌-◌, ◌*◌, ◌/◌, ◌%◌, ℕ, Bool, true, false, nat_lt, if◌then◌else◌, ℤ, pos, neg_ℤ, ◌+ℤ◌, ◌-ℤ◌, ◌*ℤ◌, ◌≤ℤ◌, ◌<ℤ◌, unsigned_abs, refl, sym, ap, subst, arith}
+use Rattle.std.proofs.Common.{◌≡◌, ◌∙◌, ◌≤◌, ◌<◌, ◌+◌, ◌-◌, ◌*◌, ◌/◌, ◌%◌, ℕ, Bool, true, false, nat_lt, if◌then◌else◌, ℤ, pos, neg_ℤ, ◌+ℤ◌}
+use Rattle.std.proofs.Common.{◌-ℤ◌, ◌*ℤ◌, ◌≤ℤ◌, ◌<ℤ◌, unsigned_abs, refl, sym, ap, subst, arith}
 use Rattle.std.proofs.lemmas.Bool.Decides.{nat_tests}
 use Rattle.std.proofs.lemmas.Int.{by_lt_z}
 use Rattle.std.specs.Int.{int_rem_euclid}
@@ -14,12 +15,14 @@ use Rattle.jiff_core.specs.March.{march_days}
 use Rattle.jiff_core.proofs.CalendarLemmas.{days_from_civil-day_count, day_count-later_year, day_count-day_of_year, day_of_year_bound}
 use Rattle.jiff_core.proofs.DateLemmas.{epoch_day_range, epoch_day_injective}
 use Rattle.jiff_core.proofs.DateTimeLemmas.{civil_nanos-parts, time_nanos_bound}
-use Rattle.jiff_core.proofs.MarchLemmas.{leap_day, leap_day-shift, march_days-suc, day_count-early, day_count-late, month_and_day, day_in_month, day_in_early_month}
+use Rattle.jiff_core.proofs.MarchLemmas.{leap_day, leap_day-shift, march_days-suc, day_count-early, day_count-late, month_and_day}
+use Rattle.jiff_core.proofs.MarchLemmas.{day_in_month, day_in_early_month}
 use Rattle.jiff_core.proofs.SignedLemmas.{signed_arith, one_part}
 use Rattle.gix_date.specs.Fields.ClockNumbers.{hours_in, minutes_in}
 use Rattle.gix_date.specs.Fields.Layout.{LocalTime}
-use Rattle.gix_date.specs.declared.civil.ClockFields.{ClockFields}
-use Rattle.gix_date.specs.Printing.LocalClocks.{march_year, march_month, march_day, january_date, date_of_day, local_seconds, local_day, second_of_day, clock_of, HasFourDigitFields}
+use Rattle.gix_date.specs.declared.clock.ClockFields.{ClockFields}
+use Rattle.gix_date.specs.Printing.LocalClocks.{march_year, march_month, march_day, january_date, date_of_day, local_seconds, local_day}
+use Rattle.gix_date.specs.Printing.LocalClocks.{second_of_day, clock_of, HasFourDigitFields}
 use Rattle.gix_date.specs.Printing.NamedTexts.{local_time, ShowsFourDigitFields}
 use Rattle.gix_date.specs.Fields.Zoned.{IsMoment, IsConvertible}
 use Rattle.gix_date.specs.declared.time.Time.{Time}
@@ -43,18 +46,21 @@ date-late year before n e short last first month = grind (arith, day_count-late,
 date-early : (year before n : ℕ) → march_days year + before + 60 ≡ n → before < 366 → n < march_days (year + 1) + 60
     → n ≤ 7_304_849 → 366 ≤ n → 12 < march_month before
     → IsDateAt n (pos (year + 1) -ℤ pos 10_000, march_month before - 12, march_day before)
-date-early year before n e short within last first month = grind (arith, signed_arith, day_count-early, leap_day, march_days-suc, leap_day-shift, day_in_early_month, month_and_day)
+date-early year before n e short within last first month =
+    grind (arith, signed_arith, day_count-early, leap_day, march_days-suc, leap_day-shift, day_in_early_month, month_and_day)
 
 date-by : (year before n : ℕ) (b : Bool) → nat_lt 12 (march_month before) ≡ b → march_days year + before + 60 ≡ n
     → before < 366 → n < march_days (year + 1) + 60 → n ≤ 7_304_849 → 366 ≤ n
-    → IsDateAt n (if b then (pos (year + 1) -ℤ pos 10_000, march_month before - 12, march_day before) else (pos year -ℤ pos 10_000, march_month before, march_day before))
+    → IsDateAt n (if b then (pos (year + 1) -ℤ pos 10_000, march_month before - 12, march_day before) else
+    (pos year -ℤ pos 10_000, march_month before, march_day before))
 date-by year before n true test e short within last first = search (rules, date-early, nat_tests)
 date-by year before n false test e short within last first = search (rules, date-late, nat_tests)
 
 date-at : (n : ℕ) → 366 ≤ n → n ≤ 7_304_849 → IsDateAt n (january_date (march_year (n - 60)))
 date-at n first last =
     let days = n - 60 in
-    date-by (march_year days).0 (march_year days).1 n _ refl (omega (arith, march-value days)) (omega arith) (omega (arith, march-within days)) last first
+    date-by (march_year days).0 (march_year days).1 n _ refl (omega (arith, march-value days)) (omega arith)
+    (omega (arith, march-within days)) last first
 
 -- a date is the one of its day number
 pub date-of-day : (date : Date) → date_of_day (epoch_day date) ≡ (date.year, date.month, date.day)
@@ -86,7 +92,17 @@ second-shown : (z : PlainZoned) (t : Time) → Shows z t
     → second_of_day t ≡ z.datetime.time.hour * 3600 + z.datetime.time.minute * 60 + z.datetime.time.second
 second-shown z t h =
     let subsec = z.datetime.time.subsec_in in
-    omega (arith, signed_arith, z.shows, h.instant, h.offset_is, civil_nanos-parts z.datetime, time_nanos_bound z.datetime.time, one_part (int_rem_euclid (local_seconds t) (pos 86_400)), subsec)
+    omega (
+      arith,
+      signed_arith,
+      z.shows,
+      h.instant,
+      h.offset_is,
+      civil_nanos-parts z.datetime,
+      time_nanos_bound z.datetime.time,
+      one_part (int_rem_euclid (local_seconds t) (pos 86_400)),
+      subsec,
+    )
 
 pub clock_is_shown : (z : PlainZoned) (t : Time) → Shows z t → local_time z ≡ clock_of t
 unfolding clock_of
@@ -117,14 +133,25 @@ year-before date lt =
     let year_in = date.year_in in
     let here = day_count-day_of_year date.year date.month date.day day_in.0 in
     let within = day_of_year_bound date.year date.month date.day (date.year_in, date.month_in, date.day_in) in
-    omega (arith, signed_arith, here, within, day_count-later_year date.year (pos 1000) (omega (arith, signed_arith, year_in)) lt, days_from_civil-day_count date.year date.month date.day, thousand)
+    omega (
+      arith,
+      signed_arith,
+      here,
+      within,
+      day_count-later_year date.year (pos 1000) (omega (arith, signed_arith, year_in)) lt,
+      days_from_civil-day_count date.year date.month date.day,
+      thousand,
+    )
 
 pub local-is : (z : PlainZoned) (t : Time) → Shows z t
-    → ((epoch_day z.datetime.date *ℤ pos 86_400) ≤ℤ local_seconds t) × (local_seconds t <ℤ (epoch_day z.datetime.date *ℤ pos 86_400 +ℤ pos 86_400))
+    → ((epoch_day z.datetime.date *ℤ pos 86_400) ≤ℤ local_seconds t)
+    × (local_seconds t <ℤ (epoch_day z.datetime.date *ℤ pos 86_400 +ℤ pos 86_400))
 local-is z t h =
     let parts = civil_nanos-parts z.datetime in
-    let bound = time_nanos_bound z.datetime.time in
-    (omega (arith, signed_arith, z.shows, h.instant, h.offset_is, parts, bound), omega (arith, signed_arith, z.shows, h.instant, h.offset_is, parts, bound))
+    let bound = time_nanos_bound z.datetime.time in (
+      omega (arith, signed_arith, z.shows, h.instant, h.offset_is, parts, bound),
+      omega (arith, signed_arith, z.shows, h.instant, h.offset_is, parts, bound),
+    )
 
 four-digits-year : (z : PlainZoned) (t : Time) → Shows z t → HasFourDigitFields t → pos 1000 ≤ℤ z.datetime.date.year
 four-digits-year z t h o =
@@ -178,6 +205,8 @@ shown-by t h =
 pub clock-by : (t : Time) (day : ℤ) (date : Date) (year second weekday : ℕ) (clock : ClockFields) → day ≡ local_day t
     → epoch_day date ≡ day → year ≡ unsigned_abs date.year → second ≡ second_of_day t → weekday ≡ weekday_number day
     → clock.hour ≡ hours_in second → clock.minute ≡ minutes_in second → clock.second ≡ second % 60
-    → ◌≡◌ {A = LocalTime} (record { weekday = weekday; date = record { year = year; month = date.month; day = date.day }; clock = clock; offset = t.offset }) (clock_of t)
+    → ◌≡◌ {A = LocalTime}
+    (record { weekday = weekday; date = record { year = year; month = date.month; day = date.day }; clock = clock; offset = t.offset })
+    (clock_of t)
 unfolding clock_of
 clock-by t day date year second weekday clock is_day at is_year is_second is_weekday hour minute last = grind (arith, date-of-day)

@@ -1,6 +1,7 @@
 -- What the named patterns show: the pieces of their layouts.
 use Rattle.std.proofs.Common.{rules}
-use Rattle.std.proofs.Common.{◌≡◌, ◌∙◌, ℕ, ℤ, pos, ◌-◌, ◌<◌, true, false, nat_lt, List, [], ◌∷◌, ◌++◌, Option, Ok, Result, refl, ap, codes, arith, get_or, lit<, replicate, zero, suc, unsigned_abs, sym}
+use Rattle.std.proofs.Common.{◌≡◌, ◌∙◌, ℕ, ℤ, pos, ◌-◌, ◌<◌, true, false, nat_lt, List, [], ◌∷◌, ◌++◌, Option, Ok, Result, refl, ap, codes}
+use Rattle.std.proofs.Common.{arith, get_or, lit<, replicate, zero, suc, unsigned_abs, sym}
 use Rattle.std.proofs.lemmas.List.{append-nil}
 use Rattle.std.proofs.lemmas.Str.{IsAscii-append}
 use Rattle.std.proofs.lemmas.List.Folds.{concat-append}
@@ -17,13 +18,21 @@ use Rattle.jiff_strtime.specs.Number.{fold_digits}
 use Rattle.jiff_strtime.specs.Show.{Shown, show_format, show_steps, directive_text, text_of, offset_text, weekday_name, short}
 use Rattle.jiff_strtime.specs.Text.{month_names as full_names}
 use Rattle.gix_date.specs.Text.Characters.{space, comma, colon, letter_t}
-use Rattle.gix_date.specs.Fields.Layout.{LocalTime, Piece, DayName, Rfc2822DayName, MonthName, Day, Year, PlainDate, Clock, Rfc2822Clock, Spaces, LetterT, Offset, ColonOffset, Rfc2822Offset, print_piece, print_pieces}
+use Rattle.gix_date.specs.Fields.Layout.{LocalTime, Piece, DayName, Rfc2822DayName, MonthName, Day, Year, PlainDate, Clock, Rfc2822Clock}
+use Rattle.gix_date.specs.Fields.Layout.{Spaces, LetterT, Offset, ColonOffset, Rfc2822Offset, print_piece, print_pieces}
 use Rattle.gix_date.specs.Text.Names.{day_name, month_names}
 use Rattle.gix_date.specs.Text.Numbers.{two_digits}
-use Rattle.gix_date.specs.Printing.NamedTexts.{local_time, ShowsFourDigitFields, ShowsText, short_pattern, short_text, rfc2822_pattern, rfc2822_text, git_rfc2822_pattern, git_rfc2822_text, iso8601_pattern, iso8601_text, iso8601_strict_pattern, iso8601_strict_text, gitoxide_pattern, gitoxide_text, default_pattern, default_text}
-use Rattle.gix_date.specs.Families.Patterns.{short_layout, rfc2822_layout, iso8601_layout, iso8601_strict_layout, gitoxide_layout, default_layout}
+use Rattle.gix_date.specs.Printing.NamedTexts.{local_time, ShowsFourDigitFields, ShowsText, short_pattern, short_text, rfc2822_pattern}
+use Rattle.gix_date.specs.Printing.NamedTexts.{rfc2822_text, git_rfc2822_pattern, git_rfc2822_text, iso8601_pattern, iso8601_text}
+use Rattle.gix_date.specs.Printing.NamedTexts.{iso8601_strict_pattern, iso8601_strict_text, gitoxide_pattern, gitoxide_text}
+use Rattle.gix_date.specs.Printing.NamedTexts.{default_pattern, default_text}
+use Rattle.gix_date.specs.Families.Patterns.{short_layout, rfc2822_layout, iso8601_layout, iso8601_strict_layout, gitoxide_layout}
+use Rattle.gix_date.specs.Families.Patterns.{default_layout}
 use Rattle.gix_date.proofs.Printing.Printing.{filled_parts}
-use Rattle.gix_date.proofs.Printing.ShownPieces.{AlwaysShows, AlwaysShowsText, InRange, ascii-bare, ascii-four, ascii-strict-zone, ascii-two, ascii-weekday, ascii-zone, bare, context, in-range, joined_text, joined_text-is, number, number-bare, number-four, number-two, shows-text, strict-zone-is, strict_config, weekday-short, zone-is, short_of, name_ascii}
+use Rattle.gix_date.proofs.Printing.ShownPieces.{AlwaysShows, AlwaysShowsText, InRange, ascii-bare, ascii-four, ascii-strict-zone}
+use Rattle.gix_date.proofs.Printing.ShownPieces.{ascii-two, ascii-weekday, ascii-zone, bare, context, in-range, joined_text, joined_text-is}
+use Rattle.gix_date.proofs.Printing.ShownPieces.{number, number-bare, number-four, number-two, shows-text, strict-zone-is, strict_config}
+use Rattle.gix_date.proofs.Printing.ShownPieces.{weekday-short, zone-is, short_of, name_ascii}
 
 -- what `jiff` shows for a piece: the year apart, since it has a sign there
 abbrev pub jiff_piece : (ℕ → List ℕ) → Piece → ℤ → LocalTime → List (List ℕ)
@@ -33,8 +42,10 @@ jiff_piece day MonthName y t = short (get_or full_names (t.date.month - 1) []) �
 jiff_piece day Day y t = day t.date.day ∷ []
 jiff_piece day Year y t = number 4 y ∷ []
 jiff_piece day PlainDate y t = number 4 y ∷ codes "-" ∷ number 2 (pos t.date.month) ∷ codes "-" ∷ number 2 (pos t.date.day) ∷ []
-jiff_piece day Clock y t = number 2 (pos t.clock.hour) ∷ codes ":" ∷ number 2 (pos t.clock.minute) ∷ codes ":" ∷ number 2 (pos t.clock.second) ∷ []
-jiff_piece day Rfc2822Clock y t = number 2 (pos t.clock.hour) ∷ codes ":" ∷ number 2 (pos t.clock.minute) ∷ codes ":" ∷ number 2 (pos t.clock.second) ∷ []
+jiff_piece day Clock y t =
+    number 2 (pos t.clock.hour) ∷ codes ":" ∷ number 2 (pos t.clock.minute) ∷ codes ":" ∷ number 2 (pos t.clock.second) ∷ []
+jiff_piece day Rfc2822Clock y t =
+    number 2 (pos t.clock.hour) ∷ codes ":" ∷ number 2 (pos t.clock.minute) ∷ codes ":" ∷ number 2 (pos t.clock.second) ∷ []
 jiff_piece day Spaces y t = codes " " ∷ []
 jiff_piece day LetterT y t = codes "T" ∷ []
 jiff_piece day Offset y t = offset_text t.offset false true false ∷ []
@@ -105,7 +116,8 @@ clock-ascii t r = grind (arith, ascii-two, mark)
 piece-ascii : {jiff_day day : ℕ → List ℕ} → ShowsDay jiff_day day → (p : Piece) (t : LocalTime) → InRange t
     → IsAscii (print_piece day p t)
 piece-ascii {jiff_day} {day} d DayName t r = ascii-weekday t.weekday
-piece-ascii {jiff_day} {day} d Rfc2822DayName t r = IsAscii-append (day_name t.weekday) (comma ∷ space ∷ []) (ascii-weekday t.weekday) (mark comma (lit< tt) (space ∷ []) (mark space (lit< tt) [] IsAscii-nil))
+piece-ascii {jiff_day} {day} d Rfc2822DayName t r = IsAscii-append (day_name t.weekday) (comma ∷ space ∷ []) (ascii-weekday t.weekday)
+    (mark comma (lit< tt) (space ∷ []) (mark space (lit< tt) [] IsAscii-nil))
 piece-ascii {jiff_day} {day} d MonthName t r = name_ascii month_names (t.date.month - 1) refl
 piece-ascii {jiff_day} {day} d Day t r = d.ascii t.date.day r.day
 piece-ascii {jiff_day} {day} d Year t r = ascii-four t.date.year r.high
@@ -121,14 +133,17 @@ piece-ascii {jiff_day} {day} d Rfc2822Offset t r = ascii-zone t.offset r.hours
 pieces-ascii : {jiff_day day : ℕ → List ℕ} → ShowsDay jiff_day day → (ps : List Piece) (t : LocalTime) → InRange t
     → IsAscii (print_pieces day ps t)
 pieces-ascii {jiff_day} {day} d [] t r = IsAscii-nil
-pieces-ascii {jiff_day} {day} d (p ∷ ps) t r = IsAscii-append (print_piece day p t) (print_pieces day ps t) (piece-ascii d p t r) (pieces-ascii d ps t r)
+pieces-ascii {jiff_day} {day} d (p ∷ ps) t r =
+    IsAscii-append (print_piece day p t) (print_pieces day ps t) (piece-ascii d p t r) (pieces-ascii d ps t r)
 
 -- by the pattern jiff shows these pieces
 abbrev pub ShowsPieces : List ℕ → (ℕ → List ℕ) → List Piece → ℕ → Type 0
 ShowsPieces pattern jiff_day ps blanks =
-    (z : PlainZoned) (abbreviation : List ℕ) (name : Option (List ℕ)) (date : Result Date Error) (iso : Result ISOWeekDate Error) (second : Result ℤ Error)
+    (z : PlainZoned) (abbreviation : List ℕ) (name : Option (List ℕ)) (date : Result Date Error) (iso : Result ISOWeekDate Error)
+    (second : Result ℤ Error)
     → nat_lt z.datetime.date.month 1 ≡ false → nat_lt 12 z.datetime.date.month ≡ false
-    → show_format strict_config pattern (context (filled_parts z abbreviation name) date iso second) ≡ Ok (joined_text [] (jiff_pieces jiff_day ps z.datetime.date.year (local_time z) blanks))
+    → show_format strict_config pattern (context (filled_parts z abbreviation name) date iso second)
+    ≡ Ok (joined_text [] (jiff_pieces jiff_day ps z.datetime.date.year (local_time z) blanks))
 
 shown : List ℕ → Shown
 shown text = Ok text
@@ -143,7 +158,8 @@ always pattern {jiff_day} {day} d ps blanks shows z o abbreviation name date iso
     let high : nat_lt 12 in_year.month ≡ false = grind (arith, in_year.month_in) in
     let t = local_time z in
     shows z abbreviation name date iso second low high
-    ∙ ap (λ (v : ℤ). shown (joined_text [] (jiff_pieces jiff_day ps v t blanks))) (o.year_is ∙ ap pos (sym (ap (λ (v : ℤ). unsigned_abs v) o.year_is)))
+    ∙ ap (λ (v : ℤ). shown (joined_text [] (jiff_pieces jiff_day ps v t blanks)))
+    (o.year_is ∙ ap pos (sym (ap (λ (v : ℤ). unsigned_abs v) o.year_is)))
     ∙ ap shown (joined_text-is [] (jiff_pieces jiff_day ps (pos t.date.year) t blanks) ∙ pieces-shown d ps t blanks (in-range z o))
 
 -- whatever is shown of a zoned value with four-digit fields is this text, and that is shown
@@ -170,9 +186,11 @@ unfolding show_steps directive_text text_of read_flag colon_rest fold_digits
 formats_printed = record {
   short = by-pieces short_pattern two-shown short_layout 3 (λ z abbreviation name date iso second low high. refl);
   rfc2822 = by-pieces rfc2822_pattern two-shown rfc2822_layout 8 (λ z abbreviation name date iso second low high. rw (low, high) refl);
-  git_rfc2822 = by-pieces git_rfc2822_pattern bare-shown rfc2822_layout 9 (λ z abbreviation name date iso second low high. rw (low, high) refl);
+  git_rfc2822 =
+      by-pieces git_rfc2822_pattern bare-shown rfc2822_layout 9 (λ z abbreviation name date iso second low high. rw (low, high) refl);
   iso8601 = by-pieces iso8601_pattern two-shown iso8601_layout 7 (λ z abbreviation name date iso second low high. refl);
-  iso8601_strict = by-pieces iso8601_strict_pattern two-shown iso8601_strict_layout 8 (λ z abbreviation name date iso second low high. refl);
+  iso8601_strict =
+      by-pieces iso8601_strict_pattern two-shown iso8601_strict_layout 8 (λ z abbreviation name date iso second low high. refl);
   gitoxide = by-pieces gitoxide_pattern two-shown gitoxide_layout 8 (λ z abbreviation name date iso second low high. rw (low, high) refl);
   default = by-pieces default_pattern bare-shown default_layout 9 (λ z abbreviation name date iso second low high. rw (low, high) refl);
 }

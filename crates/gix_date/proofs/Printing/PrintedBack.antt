@@ -8,9 +8,13 @@ use Rattle.gix_date.specs.Families.Order.{first_family_by, answers_before_git}
 use Rattle.gix_date.specs.Fields.FieldTexts.{IsField}
 use Rattle.gix_date.specs.Fields.Layout.{LocalTime, Piece, print_pieces}
 use Rattle.gix_date.specs.Printing.LocalClocks.{clock_of}
-use Rattle.gix_date.specs.Printing.NamedTexts.{ShowsText, local_time, rfc2822_pattern, git_rfc2822_pattern, iso8601_pattern, iso8601_strict_pattern, gitoxide_pattern, default_pattern, rfc2822_text, git_rfc2822_text, iso8601_text, iso8601_strict_text, gitoxide_text, default_text}
+use Rattle.gix_date.specs.Printing.NamedTexts.{ShowsText, local_time, rfc2822_pattern, git_rfc2822_pattern, iso8601_pattern}
+use Rattle.gix_date.specs.Printing.NamedTexts.{iso8601_strict_pattern, gitoxide_pattern, default_pattern, rfc2822_text, git_rfc2822_text}
+use Rattle.gix_date.specs.Printing.NamedTexts.{iso8601_text, iso8601_strict_text, gitoxide_text, default_text}
 use Rattle.gix_date.specs.Text.Numbers.{two_digits}
-use Rattle.gix_date.specs.Families.Patterns.{rfc2822_layout, iso8601_layout, iso8601_strict_layout, gitoxide_layout, default_layout, time_answer, rfc2822_answer, iso8601_answer, iso8601_strict_answer, gitoxide_answer, default_answer, IsMeaning, Accepts}
+use Rattle.gix_date.specs.Families.Patterns.{rfc2822_layout, iso8601_layout, iso8601_strict_layout, gitoxide_layout, default_layout}
+use Rattle.gix_date.specs.Families.Patterns.{time_answer, rfc2822_answer, iso8601_answer, iso8601_strict_answer, gitoxide_answer}
+use Rattle.gix_date.specs.Families.Patterns.{default_answer, IsMeaning, Accepts}
 use Rattle.gix_date.specs.Printing.Formats.{PrintsPattern}
 use Rattle.gix_date.specs.Printing.PrintedTimes.{PrintsText}
 use Rattle.gix_date.specs.Families.Raw.{OffsetRule, is_minute_offset, is_quarter_offset}
@@ -26,10 +30,12 @@ use Rattle.gix_date.proofs.Printing.ReadBack.{IsShownPlain, two-is, bare-is, bac
 -- the family stands at this place of the list, by whatever rule for raw offsets
 abbrev StandsAt : ℕ → (List ℕ → Option FamilyAnswer) → Type 0
 StandsAt place family =
-    (rule : OffsetRule) (text : List ℕ) (x : FamilyAnswer) → family text ≡ Some x → get_or (answers_before_git rule text) place None ≡ Some x
+    (rule : OffsetRule) (text : List ℕ) (x : FamilyAnswer) → family text ≡ Some x
+    → get_or (answers_before_git rule text) place None ≡ Some x
 
 -- what a layout prints of a time, with the day of the month so, is read by its family, which is the first that holds it
-parsed-back : (rule : OffsetRule) (place : ℕ) (family : List ℕ → Option FamilyAnswer) (layout : List Piece) (day : ℕ → List ℕ) → StandsAt place family
+parsed-back : (rule : OffsetRule) (place : ℕ) (family : List ℕ → Option FamilyAnswer) (layout : List Piece) (day : ℕ → List ℕ)
+    → StandsAt place family
     → Accepts family (IsMeaning layout time_answer) → ((n : ℕ) → n < 100 → IsField (day n) n)
     → (t : Time) → RoundTrips t → first_family_by rule (print_pieces day layout (clock_of t)) ≡ Some (Absolute t)
 parsed-back rule place family layout day stands spells field t h =
@@ -46,7 +52,8 @@ parsed-back rule place family layout day stands spells field t h =
     ap (λ (l : LocalTime). first_family_by rule (print_pieces day layout l)) (sym (clock_is_shown z t shows))
     ∙ first-at rule place text (Absolute t) (stands rule text (Absolute t) (back family layout day spells field z t plain))
 
-read-back : (rule : OffsetRule) (pattern : List ℕ) (place : ℕ) (family : List ℕ → Option FamilyAnswer) (layout : List Piece) (day : ℕ → List ℕ)
+read-back : (rule : OffsetRule) (pattern : List ℕ) (place : ℕ) (family : List ℕ → Option FamilyAnswer) (layout : List Piece)
+    (day : ℕ → List ℕ)
     → ShowsText pattern (λ l. print_pieces day layout l) → StandsAt place family → Accepts family (IsMeaning layout time_answer)
     → ((n : ℕ) → n < 100 → IsField (day n) n)
     → (t : Time) → RoundTrips t → RoundTripsBy rule pattern (λ l. print_pieces day layout l) t
@@ -55,12 +62,18 @@ read-back rule pattern place family layout day shows stands spells field t h = s
 -- by each of the six formats
 pub round_trips_by_each : (rule : OffsetRule) (t : Time) → RoundTrips t → RoundTripsByEach rule t
 round_trips_by_each rule t h = record {
-  iso8601 = read-back rule iso8601_pattern 3 iso8601_answer iso8601_layout two_digits formats_printed.iso8601.only (λ rule text x e. e) dates_spelled.iso8601 two-is t h;
-  iso8601_strict = read-back rule iso8601_strict_pattern 4 iso8601_strict_answer iso8601_strict_layout two_digits formats_printed.iso8601_strict.only (λ rule text x e. e) dates_spelled.iso8601_strict two-is t h;
-  rfc2822 = read-back rule rfc2822_pattern 2 rfc2822_answer rfc2822_layout two_digits formats_printed.rfc2822.only (λ rule text x e. e) dates_spelled.rfc2822 two-is t h;
-  git_rfc2822 = read-back rule git_rfc2822_pattern 2 rfc2822_answer rfc2822_layout decimal formats_printed.git_rfc2822.only (λ rule text x e. e) dates_spelled.rfc2822 bare-is t h;
-  gitoxide = read-back rule gitoxide_pattern 5 gitoxide_answer gitoxide_layout two_digits formats_printed.gitoxide.only (λ rule text x e. e) dates_spelled.gitoxide two-is t h;
-  default = read-back rule default_pattern 6 default_answer default_layout decimal formats_printed.default.only (λ rule text x e. e) dates_spelled.default bare-is t h;
+  iso8601 = read-back rule iso8601_pattern 3 iso8601_answer iso8601_layout two_digits formats_printed.iso8601.only (λ rule text x e. e)
+      dates_spelled.iso8601 two-is t h;
+  iso8601_strict = read-back rule iso8601_strict_pattern 4 iso8601_strict_answer iso8601_strict_layout two_digits
+      formats_printed.iso8601_strict.only (λ rule text x e. e) dates_spelled.iso8601_strict two-is t h;
+  rfc2822 = read-back rule rfc2822_pattern 2 rfc2822_answer rfc2822_layout two_digits formats_printed.rfc2822.only (λ rule text x e. e)
+      dates_spelled.rfc2822 two-is t h;
+  git_rfc2822 = read-back rule git_rfc2822_pattern 2 rfc2822_answer rfc2822_layout decimal formats_printed.git_rfc2822.only
+      (λ rule text x e. e) dates_spelled.rfc2822 bare-is t h;
+  gitoxide = read-back rule gitoxide_pattern 5 gitoxide_answer gitoxide_layout two_digits formats_printed.gitoxide.only (λ rule text x e. e)
+      dates_spelled.gitoxide two-is t h;
+  default = read-back rule default_pattern 6 default_answer default_layout decimal formats_printed.default.only (λ rule text x e. e)
+      dates_spelled.default bare-is t h;
 }
 
 text-back : (rule : OffsetRule) (pattern : List ℕ) (text : LocalTime → List ℕ) (t : Time) (r : Result (String Global) Error) → RoundTrips t
@@ -69,7 +82,8 @@ text-back rule pattern text t (Ok s) plain back h = ap (first_family_by rule) h 
 text-back rule pattern text t (Err e) plain back (inl memory) = memory
 text-back rule pattern text t (Err e) plain back (inr conversion) = absurd (conversion.1 plain.converts)
 
-by-pattern : (rule : OffsetRule) (pattern own : List ℕ) (text : LocalTime → List ℕ) (t : Time) (r : Result (String Global) Error) → RoundTrips t
+by-pattern : (rule : OffsetRule) (pattern own : List ℕ) (text : LocalTime → List ℕ) (t : Time) (r : Result (String Global) Error)
+    → RoundTrips t
     → RoundTripsBy rule pattern text t → own ≡ pattern → PrintsPattern t own r → RoundTripsAs rule t r
 by-pattern rule pattern own text t r plain back e h = grind (arith, text-back, back)
 

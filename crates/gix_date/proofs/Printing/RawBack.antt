@@ -1,5 +1,6 @@
 -- Header texts with raw offsets, and bare seconds, are parsed back.
-use Rattle.std.proofs.Common.{◌≡◌, ◌∙◌, ◌*◌, ◌/◌, ◌%◌, ◌<◌, ◌≤◌, ◌≤ℤ◌, ℕ, ℤ, true, List, [], ◌∷◌, ◌++◌, refl, ap, sym, subst, arith, Some, Option, IsUtf8, unsigned_abs, FitsSigned, w64, suc, IsSomeAnd, rules}
+use Rattle.std.proofs.Common.{◌≡◌, ◌∙◌, ◌*◌, ◌/◌, ◌%◌, ◌<◌, ◌≤◌, ◌≤ℤ◌, ℕ, ℤ, true, List, [], ◌∷◌, ◌++◌, refl, ap, sym, subst, arith, Some}
+use Rattle.std.proofs.Common.{Option, IsUtf8, unsigned_abs, FitsSigned, w64, suc, IsSomeAnd, rules}
 use Rattle.std.proofs.lemmas.Bool.Decides.{nat_tests}
 use Rattle.std.proofs.lemmas.Str.{IsUtf8-from_ascii}
 use Rattle.std.specs.Int.Signed.{le_z}
@@ -43,14 +44,16 @@ minutes-of-hour : (n : ℕ) → nat_le (n % 3600 / 60) 59 ≡ true
 minutes-of-hour n = let few : n % 3600 / 60 ≤ 59 = omega arith in grind (arith, nat_tests)
 
 -- A header text is a raw text by each rule that allows its offset.
-by-raw-words : (rule : OffsetRule) (text a b : List ℕ) (n : ℤ) (f : OffsetFields) → space_words text ≡ a ∷ b ∷ [] → int_value a ≡ Some n → offset_fields b ≡ Some f → rule f ≡ true → raw_time_by rule text ≡ Some (record { seconds = n; offset = offset_of f })
+by-raw-words : (rule : OffsetRule) (text a b : List ℕ) (n : ℤ) (f : OffsetFields) → space_words text ≡ a ∷ b ∷ [] → int_value a ≡ Some n
+    → offset_fields b ≡ Some f → rule f ≡ true → raw_time_by rule text ≡ Some (record { seconds = n; offset = offset_of f })
 unfolding raw_time_by raw_offset_by
 by-raw-words rule text a b n f w e h q = rw (w, e, h, q) refl
 
 words-of-two : (front zone : List ℕ) → IsNumber front → IsNumber zone → space_words (front ++ (space ∷ zone)) ≡ front ∷ zone ∷ []
 words-of-two front zone a b = rw (a.whole, b.whole) (two-words a.first b.first a.rest b.rest a.bytes b.bytes)
 
-back-by : (rule : OffsetRule) (t : Time) → FitsSigned w64 t.seconds → unsigned_abs t.offset < 360000 → unsigned_abs t.offset % 60 ≡ 0 → rule (written_fields t.offset) ≡ true
+back-by : (rule : OffsetRule) (t : Time) → FitsSigned w64 t.seconds → unsigned_abs t.offset < 360000 → unsigned_abs t.offset % 60 ≡ 0
+    → rule (written_fields t.offset) ≡ true
     → IsSomeAnd (header_text t) (λ text. first_family_by rule text ≡ Some (Absolute t))
 back-by rule t f short minutes allowed =
     let front = decimal_text t.seconds in
@@ -75,7 +78,8 @@ pub wide_back : (t : Time) → FitsSigned w64 t.seconds → IsMinuteOffset t.off
 wide_back t f wide = grind (arith, back-by, hours-of-day, minutes-of-hour)
 
 -- bare seconds
-pub seconds_back : (rule : OffsetRule) (n : ℤ) → FitsSigned w64 n → MIN_EPOCH ≤ℤ n → first_family_by rule (decimal_text n) ≡ Some (Absolute (utc_time n))
+pub seconds_back : (rule : OffsetRule) (n : ℤ) → FitsSigned w64 n → MIN_EPOCH ≤ℤ n
+    → first_family_by rule (decimal_text n) ≡ Some (Absolute (utc_time n))
 unfolding epoch_time
 seconds_back rule n f least =
     let h : le_z MIN_EPOCH n ≡ true = search rules in

@@ -1,6 +1,7 @@
 -- The texts of the named formats are parsed back.
 use Rattle.std.proofs.lemmas.Grind.{common_steps}
-use Rattle.std.proofs.Common.{◌≡◌, ◌∙◌, ◌/◌, ◌%◌, ◌<◌, ◌≤◌, ℕ, ℤ, pos, ◌*ℤ◌, ◌+ℤ◌, true, false, List, [], ◌∷◌, ◌++◌, filter, length, refl, ap, sym, subst, arith, Some, None, Option, is_some, inl, inr, unsigned_abs, zero, suc, get_or, drop}
+use Rattle.std.proofs.Common.{◌≡◌, ◌∙◌, ◌/◌, ◌%◌, ◌<◌, ◌≤◌, ℕ, ℤ, pos, ◌*ℤ◌, ◌+ℤ◌, true, false, List, [], ◌∷◌, ◌++◌, filter, length, refl}
+use Rattle.std.proofs.Common.{ap, sym, subst, arith, Some, None, Option, is_some, inl, inr, unsigned_abs, zero, suc, get_or, drop}
 use Rattle.std.proofs.lemmas.Bool.Decides.{nat_tests}
 use Rattle.std.proofs.lemmas.Bool.{cases_order}
 use Rattle.std.proofs.lemmas.Fmt.{decimal_digit}
@@ -19,10 +20,13 @@ use Rattle.gix_date.specs.Families.Answer.{FamilyAnswer, Absolute}
 use Rattle.gix_date.specs.Text.Characters.{space}
 use Rattle.gix_date.specs.Fields.Civil.{civil_instant, civil_seconds}
 use Rattle.gix_date.specs.Families.Order.{first_answer_of, family_answers, answers_before_git, first_family_by}
-use Rattle.gix_date.specs.Fields.FieldTexts.{IsField, IsYear, AreSpaces, IsDayName, IsMonthName, IsPlainDate, IsClock, four_digits, date_text, clock_text}
-use Rattle.gix_date.specs.Fields.Layout.{LocalTime, Piece, DayName, Rfc2822DayName, MonthName, Day, Year, PlainDate, Clock, Rfc2822Clock, Spaces, LetterT, Offset, ColonOffset, Rfc2822Offset, IsPiece, ArePieces, print_piece, print_pieces}
+use Rattle.gix_date.specs.Fields.FieldTexts.{IsField, IsYear, AreSpaces, IsDayName, IsMonthName, IsPlainDate, IsClock, four_digits}
+use Rattle.gix_date.specs.Fields.FieldTexts.{date_text, clock_text}
+use Rattle.gix_date.specs.Fields.Layout.{LocalTime, Piece, DayName, Rfc2822DayName, MonthName, Day, Year, PlainDate, Clock, Rfc2822Clock}
+use Rattle.gix_date.specs.Fields.Layout.{Spaces, LetterT, Offset, ColonOffset, Rfc2822Offset, IsPiece, ArePieces, print_piece, print_pieces}
 use Rattle.gix_date.specs.Text.Names.{day_name, month_name}
-use Rattle.gix_date.specs.Fields.DateOffsets.{strict_offset_text, compact_offset, strict_offset, rfc2822_zone, rfc2822_offset, is_jiff_offset, jiff_offset, last_colon_pair}
+use Rattle.gix_date.specs.Fields.DateOffsets.{strict_offset_text, compact_offset, strict_offset, rfc2822_zone, rfc2822_offset}
+use Rattle.gix_date.specs.Fields.DateOffsets.{is_jiff_offset, jiff_offset, last_colon_pair}
 use Rattle.gix_date.specs.Printing.NamedTexts.{local_time, ShowsFourDigitFields}
 use Rattle.gix_date.specs.Fields.Offsets.{compact_offset_text}
 use Rattle.gix_date.specs.Text.Numbers.{two_digits}
@@ -30,8 +34,8 @@ use Rattle.gix_date.specs.Fields.DateFields.{without_leap_second, is_weekday, mo
 use Rattle.gix_date.specs.Text.Front.{skip_char}
 use Rattle.gix_date.specs.Families.Raw.{OffsetRule}
 use Rattle.jiff_core.specs.declared.civil.date.Date.{Date}
-use Rattle.gix_date.specs.declared.civil.ClockFields.{ClockFields}
-use Rattle.gix_date.specs.declared.civil.DateFields.{DateFields}
+use Rattle.gix_date.specs.declared.clock.ClockFields.{ClockFields}
+use Rattle.gix_date.specs.declared.clock.DateFields.{DateFields}
 use Rattle.gix_date.specs.declared.time.Time.{Time}
 use Rattle.gix_date.proofs.Families.Apart.{before-git-apart}
 use Rattle.gix_date.proofs.Header.HeaderLaws.{zone-read, back-to, written_fields, is-digit, sign-read, two-read}
@@ -86,13 +90,34 @@ pub year-is-four : (n : ℕ) → n ≤ 9999 → IsYear (four_digits n) n
 year-is-four n h = grind (arith, is-digit)
 
 pub date-is : (d : DateFields) → d.year ≤ 9999 → d.month < 100 → d.day < 100 → IsPlainDate (date_text d) d
-date-is d y m e = record { year = four_digits d.year; month = two_digits d.month; day = two_digits d.day; whole = refl; is_year = year-is-four d.year y; is_month = two-is d.month m; is_day = two-is d.day e }
+date-is d y m e = record {
+  year = four_digits d.year;
+  month = two_digits d.month;
+  day = two_digits d.day;
+  whole = refl;
+  is_year =
+      year-is-four d.year y;
+  is_month = two-is d.month m;
+  is_day = two-is d.day e;
+}
 
 pub no-leap : (n : ℕ) → n < 60 → without_leap_second n ≡ n
 no-leap n h = let other : (n == 60) ≡ false = grind (arith, nat_tests) in rw other refl
 
 pub clock-is : (c : ClockFields) → c.hour < 100 → c.minute < 100 → c.second < 60 → IsClock (clock_text c) c
-clock-is c h m s = record { hour = two_digits c.hour; minute = two_digits c.minute; second = two_digits c.second; seconds = c.second; whole = refl; is_hour = two-is c.hour h; is_minute = two-is c.minute m; is_second = two-is c.second (omega arith); without_leap = sym (no-leap c.second s) }
+clock-is c h m s = record {
+  hour = two_digits c.hour;
+  minute = two_digits c.minute;
+  second = two_digits c.second;
+  seconds =
+      c.second;
+  whole = refl;
+  is_hour = two-is c.hour h;
+  is_minute = two-is c.minute m;
+  is_second =
+      two-is c.second (omega arith);
+  without_leap = sym (no-leap c.second s);
+}
 
 -- an offset as it is printed
 zone-tests : (o : ℤ) → unsigned_abs o ≤ 86340 → is_jiff_offset (written_fields o) ≡ true
@@ -175,7 +200,8 @@ piece-is : (day : ℕ → List ℕ) → ((n : ℕ) → n < 100 → IsField (day 
     → IsPiece p t (print_piece day p t)
 piece-is day field DayName t h = day_is_named t.weekday h.weekday
 piece-is day field Rfc2822DayName t h =
-    inr (record { name = day_name t.weekday; gap = space ∷ []; whole = refl; is_name = day_is_named t.weekday h.weekday; are_spaces = one-space })
+    inr (record
+    { name = day_name t.weekday; gap = space ∷ []; whole = refl; is_name = day_is_named t.weekday h.weekday; are_spaces = one-space })
 piece-is day field MonthName t h = month-is t.date.month h.first_month h.last_month
 piece-is day field Day t h = field t.date.day h.range.day
 piece-is day field Year t h = year-is-four t.date.year h.range.high
@@ -192,7 +218,14 @@ pub pieces-are : (day : ℕ → List ℕ) → ((n : ℕ) → n < 100 → IsField
     → IsPrintable t → ArePieces ps t (print_pieces day ps t)
 pieces-are day field [] t h = refl
 pieces-are day field (p ∷ ps) t h =
-    record { front = print_piece day p t; rest = print_pieces day ps t; whole = refl; is = piece-is day field p t h; more = pieces-are day field ps t h }
+    record {
+      front = print_piece day p t;
+      rest = print_pieces day ps t;
+      whole = refl;
+      is = piece-is day field p t h;
+      more =
+          pieces-are day field ps t h;
+    }
 
 pub record IsShownPlain (z : PlainZoned) (t : Time) : Type 0 where
   pub four_digits : ShowsFourDigitFields z
@@ -210,8 +243,10 @@ pub back : (family : List ℕ → Option FamilyAnswer) (layout : List Piece) (da
     → family (print_pieces day layout (local_time z)) ≡ Some (Absolute t)
 back family layout day spells field z t h =
     let l = local_time z in
-    let civil : civil_instant l.date l.clock t.offset ≡ Some t.seconds = subst (λ (o : ℤ). civil_instant l.date l.clock o ≡ Some t.seconds) h.offset_is (local-instant z t.seconds h.four_digits h.instant) in
-    let comes = subst (λ (o : ℤ). date_answer l.date l.clock o ≡ Some (Absolute t)) (sym h.offset_is) (answer_is t l.date l.clock civil h.within) in
+    let civil : civil_instant l.date l.clock t.offset ≡ Some t.seconds = subst (λ (o : ℤ). civil_instant l.date l.clock o ≡ Some t.seconds)
+    h.offset_is (local-instant z t.seconds h.four_digits h.instant) in
+    let comes =
+    subst (λ (o : ℤ). date_answer l.date l.clock o ≡ Some (Absolute t)) (sym h.offset_is) (answer_is t l.date l.clock civil h.within) in
     (spells (print_pieces day layout l) (Absolute t)).1 (record {
       time =
           l;

@@ -1,5 +1,7 @@
 -- The pieces of a printed text.
-use Rattle.std.proofs.Common.{◌≡◌, ◌∙◌, ℕ, ℤ, pos, ◌+◌, ◌-◌, ◌/◌, ◌%◌, ◌<◌, ◌≤◌, Bool, true, false, List, [], ◌∷◌, ◌++◌, Option, Ok, Err, Result, refl, sym, ap, arith, append_assoc, decimal, length, get_or, replicate, min, inl, inr, zero, suc, unsigned_abs, lit<, if◌then◌else◌, map}
+use Rattle.std.proofs.Common.{◌≡◌, ◌∙◌, ℕ, ℤ, pos, ◌+◌, ◌-◌, ◌/◌, ◌%◌, ◌<◌, ◌≤◌, Bool, true, false, List, [], ◌∷◌, ◌++◌, Option, Ok, Err}
+use Rattle.std.proofs.Common.{Result, refl, sym, ap, arith, append_assoc, decimal, length, get_or, replicate, min, inl, inr, zero, suc}
+use Rattle.std.proofs.Common.{unsigned_abs, lit<, if◌then◌else◌, map}
 use Rattle.std.specs.Prelude.{nat_lt}
 use Rattle.std.specs.List.{concat, list_all}
 use Rattle.std.proofs.lemmas.Bool.Decides.{nat_tests}
@@ -54,7 +56,8 @@ config_is : (config : Config) → config.locale ≡ Default → config.lenient �
 config_is config l s = rw (l, s) refl
 
 -- so that text is all that can be shown
-pub shown-only : (pattern : List ℕ) (z : PlainZoned) (text : List ℕ) → AlwaysShows pattern z text → (shown : Shown) → IsShown pattern z shown → shown ≡ Ok text
+pub shown-only : (pattern : List ℕ) (z : PlainZoned) (text : List ℕ) → AlwaysShows pattern z text → (shown : Shown)
+    → IsShown pattern z shown → shown ≡ Ok text
 shown-only pattern z text always shown h =
     let cx = h.is_shown.context in
     let info = h.are_printed.are_parts.0 in
@@ -70,7 +73,8 @@ abbrev pub text_or_none : Shown → List ℕ
 text_or_none (Ok text) = text
 text_or_none (Err e) = []
 
-pub never-refused : (pattern : List ℕ) (z : PlainZoned) (text : List ℕ) → ((shown : Shown) → IsShown pattern z shown → shown ≡ Ok text) → IsUtf8 text
+pub never-refused : (pattern : List ℕ) (z : PlainZoned) (text : List ℕ) → ((shown : Shown) → IsShown pattern z shown → shown ≡ Ok text)
+    → IsUtf8 text
     → IsUnprinted pattern z → ⊥
 never-refused pattern z text only u (inl (e, h)) =
     let clash : ◌≡◌ {A = Shown} (Err e) (Ok text) = only (Err e) h in
@@ -79,7 +83,8 @@ never-refused pattern z text only u (inr (shown, h, bad)) =
     let same : shown ≡ text = ap text_or_none (only (Ok shown) h) in
     bad (rw same u)
 
-pub shows-text : (pattern : List ℕ) (text : LocalTime → List ℕ) → ((z : PlainZoned) → ShowsFourDigitFields z → AlwaysShows pattern z (text (local_time z)))
+pub shows-text : (pattern : List ℕ) (text : LocalTime → List ℕ)
+    → ((z : PlainZoned) → ShowsFourDigitFields z → AlwaysShows pattern z (text (local_time z)))
     → ((z : PlainZoned) → ShowsFourDigitFields z → IsAscii (text (local_time z))) → ShowsText pattern text
 shows-text pattern text always ascii z o =
     let only = shown-only pattern z (text (local_time z)) (always z o) in

@@ -1,5 +1,7 @@
 -- What the strict printer shows by a named pattern is its text: not only nothing else, but that.
-use Rattle.std.proofs.Common.{rules, ◌≡◌, ◌∙◌, ◌+◌, ◌/◌, ◌++◌, ℤ, unsigned_abs, Bool, true, length, Bor, option_map, arith, get_or, lit<, if◌then◌else◌, ◌<◌, ◌≤◌, ℕ, List, [], ◌∷◌, decimal, Option, Some, None, Result, Ok, Err, IfOk, IfErr, String, Global, refl, sym, ap, subst, inl, inr, false, string_bytes, suc}
+use Rattle.std.proofs.Common.{rules, ◌≡◌, ◌∙◌, ◌+◌, ◌/◌, ◌++◌, ℤ, unsigned_abs, Bool, true, length, Bor, option_map, arith, get_or, lit<}
+use Rattle.std.proofs.Common.{if◌then◌else◌, ◌<◌, ◌≤◌, ℕ, List, [], ◌∷◌, decimal, Option, Some, None, Result, Ok, Err, IfOk, IfErr, String}
+use Rattle.std.proofs.Common.{Global, refl, sym, ap, subst, inl, inr, false, string_bytes, suc}
 use Rattle.std.proofs.lemmas.Fmt.{decimal_digit}
 use Rattle.jiff.specs.Types.{PlainZoned}
 use Rattle.jiff_core.specs.declared.error.Error.TheVariants.{Missing}
@@ -27,7 +29,8 @@ use Rattle.jiff_core.specs.declared.civil.weekday.Weekday.TheVariants.{Monday, T
 use Rattle.jiff_strtime.specs.declared.tm.BrokenDownTime.{BrokenDownTime}
 use Rattle.jiff.specs.Words.{plain_zoned}
 use Rattle.gix_date.specs.Fields.Layout.{LocalTime}
-use Rattle.gix_date.specs.Printing.NamedTexts.{IsShownByAll, short_pattern, short_text, iso8601_pattern, iso8601_text, iso8601_strict_pattern, iso8601_strict_text}
+use Rattle.gix_date.specs.Printing.NamedTexts.{IsShownByAll, short_pattern, short_text, iso8601_pattern, iso8601_text}
+use Rattle.gix_date.specs.Printing.NamedTexts.{iso8601_strict_pattern, iso8601_strict_text}
 use Rattle.gix_date.proofs.Printing.Appended.{begun}
 use Rattle.gix_date.proofs.Printing.NamedTexts.{formats_printed}
 use Rattle.gix_date.specs.Printing.LocalClocks.{clock_of, HasFourDigitFields}
@@ -43,7 +46,8 @@ use Rattle.gix_date.proofs.Printing.ShownPieces.{AlwaysShows, AlwaysShowsText, a
 
 -- the abbreviation with this text
 abbrev named_so : (text : List ℕ) → length text ≤ 15 → IsAscii text → Abbreviation
-named_so text short ascii = record { bytes = text; len = length text; fits = short; text = ∣ subst IsUtf8 (sym (take-length text)) (IsUtf8-from_ascii text ascii) ∣₁ }
+named_so text short ascii = record
+    { bytes = text; len = length text; fits = short; text = ∣ subst IsUtf8 (sym (take-length text)) (IsUtf8-from_ascii text ascii) ∣₁ }
 
 named-so : (text : List ℕ) (short : length text ≤ 15) (ascii : IsAscii text) → abbreviation_text (named_so text short ascii) ≡ text
 unfolding abbreviation_text
@@ -51,7 +55,8 @@ named-so text short ascii = take-length text
 
 -- an offset as an abbreviation is short, and ASCII
 abbrev behind_hours : Bool → Bool → ℕ → ℕ → List ℕ
-behind_hours has_seconds has_minutes m s = if has_seconds then colon_digits m ++ colon_digits s else (if has_minutes then colon_digits m else [])
+behind_hours has_seconds has_minutes m s =
+    if has_seconds then colon_digits m ++ colon_digits s else (if has_minutes then colon_digits m else [])
 
 colon-ascii : (n : ℕ) → n < 100 → IsAscii (colon_digits n)
 colon-ascii n h = IsAscii-cons 58 (two_digits n) (lit< tt) (ascii-two n h)
@@ -79,11 +84,16 @@ some-info : (tz : TimeZone) (n : ℤ) → (info : OffsetInfo) × IsInfoAt tz n i
 some-info (Fixed o) n =
     let hours : unsigned_abs o.seconds / 3600 < 100 = omega (arith, signed_arith, one_part o.seconds, o.in_range) in
     let short = offset-short o.seconds in
-    let ascii = offset-ascii o.seconds hours in
-    (record { offset = o; abbreviation = named_so (offset_text o.seconds) short ascii; dst = No }, (refl, named-so (offset_text o.seconds) short ascii, refl))
+    let ascii = offset-ascii o.seconds hours in (
+      record { offset = o; abbreviation = named_so (offset_text o.seconds) short ascii; dst = No },
+      (refl, named-so (offset_text o.seconds) short ascii, refl),
+    )
 some-info (Posix tz) n = (PosixRule.info_at tz n, refl)
 some-info (Tzif z) n = (Table.info_at z.now n, refl)
-some-info tz n = (record { offset = utc_offset; abbreviation = named_so (85 ∷ 84 ∷ 67 ∷ []) (lit< tt) utc-ascii; dst = No }, (refl, named-so (85 ∷ 84 ∷ 67 ∷ []) (lit< tt) utc-ascii, refl))
+some-info tz n = (
+  record { offset = utc_offset; abbreviation = named_so (85 ∷ 84 ∷ 67 ∷ []) (lit< tt) utc-ascii; dst = No },
+  (refl, named-so (85 ∷ 84 ∷ 67 ∷ []) (lit< tt) utc-ascii, refl),
+)
 
 lent : List ℕ → Bor (List ℕ)
 lent text = record { ref_ptr = (0, 0); now = text }
@@ -134,8 +144,10 @@ has-parts z =
       iana = option_map lent name;
     } in
     let with_weekday : parts_of filled ≡ filled_parts z abbreviation (option_map (λ s. s.now) (option_map lent name)) =
-    ap (λ (d : ℕ). let q : Parts = record (filled_parts z abbreviation (option_map (λ s. s.now) (option_map lent name))) { weekday = Some d } in q) w.1 in
-    let same : parts_of filled ≡ filled_parts z abbreviation name = with_weekday ∙ ap (λ (t : Option (List ℕ)). filled_parts z abbreviation t) (lent-back name) in
+    ap (λ (d : ℕ). let q : Parts =
+    record (filled_parts z abbreviation (option_map (λ s. s.now) (option_map lent name))) { weekday = Some d } in q) w.1 in
+    let same : parts_of filled ≡ filled_parts z abbreviation name = with_weekday
+    ∙ ap (λ (t : Option (List ℕ)). filled_parts z abbreviation t) (lent-back name) in
     (filled, are-printed z info.0 abbreviation name (parts_of filled) info.1 refl refl same)
 
 -- a text that is always shown is shown: no date, no week and no instant of a context is needed
@@ -155,7 +167,8 @@ shows-always pattern z text always =
       is_shown = record {
         context = context parts (Err (Missing Year)) (Err (Missing NoDate)) (Err (Missing Year));
         is_context = record { parts = sym filled_is; date = inr (inl refl); iso = refl; second = inl (inl (inr (inl refl))) };
-        shown_is = always (abbreviation_text info.abbreviation) (zone_name z.time_zone) (Err (Missing Year)) (Err (Missing NoDate)) (Err (Missing Year));
+        shown_is = always (abbreviation_text info.abbreviation) (zone_name z.time_zone) (Err (Missing Year)) (Err (Missing NoDate))
+            (Err (Missing Year));
       };
     }
 
@@ -168,14 +181,20 @@ named-shown pattern named text local bytes always p b z four_digits shows = grin
 bytes_eq-true : (pattern : List ℕ) → bytes_eq pattern short_pattern ≡ true → pattern ≡ short_pattern
 bytes_eq-true pattern p = search rules
 
-pub short_shown : (pattern : List ℕ) (local : LocalTime) (old bytes : List ℕ) → bytes_eq pattern short_pattern ≡ true → old ≡ [] → bytes ≡ old ++ short_text local → IsShownByAll pattern local bytes
-short_shown pattern local old bytes p e b = named-shown pattern short_pattern short_text local bytes formats_printed.short.always (bytes_eq-true pattern p) (begun old bytes (short_text local) e b)
+pub short_shown : (pattern : List ℕ) (local : LocalTime) (old bytes : List ℕ) → bytes_eq pattern short_pattern ≡ true → old ≡ []
+    → bytes ≡ old ++ short_text local → IsShownByAll pattern local bytes
+short_shown pattern local old bytes p e b = named-shown pattern short_pattern short_text local bytes formats_printed.short.always
+    (bytes_eq-true pattern p) (begun old bytes (short_text local) e b)
 
-pub iso8601_shown : (pattern : List ℕ) (local : LocalTime) (old bytes : List ℕ) → pattern ≡ iso8601_pattern → old ≡ [] → bytes ≡ old ++ iso8601_text local → IsShownByAll pattern local bytes
-iso8601_shown pattern local old bytes p e b = named-shown pattern iso8601_pattern iso8601_text local bytes formats_printed.iso8601.always p (begun old bytes (iso8601_text local) e b)
+pub iso8601_shown : (pattern : List ℕ) (local : LocalTime) (old bytes : List ℕ) → pattern ≡ iso8601_pattern → old ≡ []
+    → bytes ≡ old ++ iso8601_text local → IsShownByAll pattern local bytes
+iso8601_shown pattern local old bytes p e b =
+    named-shown pattern iso8601_pattern iso8601_text local bytes formats_printed.iso8601.always p (begun old bytes (iso8601_text local) e b)
 
-pub strict_shown : (pattern : List ℕ) (local : LocalTime) (old bytes : List ℕ) → pattern ≡ iso8601_strict_pattern → old ≡ [] → bytes ≡ old ++ iso8601_strict_text local → IsShownByAll pattern local bytes
-strict_shown pattern local old bytes p e b = named-shown pattern iso8601_strict_pattern iso8601_strict_text local bytes formats_printed.iso8601_strict.always p (begun old bytes (iso8601_strict_text local) e b)
+pub strict_shown : (pattern : List ℕ) (local : LocalTime) (old bytes : List ℕ) → pattern ≡ iso8601_strict_pattern → old ≡ []
+    → bytes ≡ old ++ iso8601_strict_text local → IsShownByAll pattern local bytes
+strict_shown pattern local old bytes p e b = named-shown pattern iso8601_strict_pattern iso8601_strict_text local bytes
+    formats_printed.iso8601_strict.always p (begun old bytes (iso8601_strict_text local) e b)
 
 pub ruleset numbers_shown = (short_shown, iso8601_shown, strict_shown)
 
@@ -183,7 +202,8 @@ pub ruleset numbers_shown = (short_shown, iso8601_shown, strict_shown)
 pub copy-prints : (pattern : List ℕ) (t : Time) (text : List ℕ) (r : Result (String Global) Error) → IsConvertible t
     → IsPatternText t pattern text → IfOk r (λ copy. string_bytes copy ≡ text) → IfErr r (λ e. e ≡ errors.Memory)
     → PrintsPattern t pattern r
-copy-prints pattern t text (Ok copy) converts (z, m, shown) ok err = (z, m, subst (λ (s : List ℕ). IsShown pattern (plain_zoned z) (Ok s)) (sym ok) shown)
+copy-prints pattern t text (Ok copy) converts (z, m, shown) ok err =
+    (z, m, subst (λ (s : List ℕ). IsShown pattern (plain_zoned z) (Ok s)) (sym ok) shown)
 copy-prints pattern t text (Err e) converts h ok err = inr (inl (err, converts))
 
 -- what shows by such a clock is the text of its time

@@ -24,20 +24,24 @@ pair-once tz (n, Months size) i a b h g = months-once tz _ i a b h.1 g.1
 
 pub chain-once : (tz : TimeZone) (pairs : List (ℤ × TimeUnit)) (i a b : ℤ) → Chain tz pairs i a → Chain tz pairs i b → a ≡ b
 chain-once tz [] i a b h g = h ∙ sym g
-chain-once tz (pair ∷ more) i a b h g = chain-once tz more g.0 a b (subst (λ (k : ℤ). Chain tz more k a) (pair-once tz pair i h.0 g.0 h.1 g.1) h.2) g.2
+chain-once tz (pair ∷ more) i a b h g =
+    chain-once tz more g.0 a b (subst (λ (k : ℤ). Chain tz more k a) (pair-once tz pair i h.0 g.0 h.1 g.1) h.2) g.2
 
 -- what is left leads from here to where the whole leads from the start
 abbrev pub Left : TimeZone → List (ℤ × TimeUnit) → ℤ → List (ℤ × TimeUnit) → ℤ → Type 0
 Left tz left here all start = (j : ℤ) → (Chain tz left here j → Chain tz all start j) × (Chain tz all start j → Chain tz left here j)
 
-pub left-next : (tz : TimeZone) (pair : ℤ × TimeUnit) (left more all : List (ℤ × TimeUnit)) (here next start : ℤ) → left ≡ pair ∷ more → PairStep tz pair here next → Left tz left here all start → Left tz more next all start
+pub left-next : (tz : TimeZone) (pair : ℤ × TimeUnit) (left more all : List (ℤ × TimeUnit)) (here next start : ℤ) → left ≡ pair ∷ more
+    → PairStep tz pair here next → Left tz left here all start → Left tz more next all start
 left-next tz pair left more all here next start e step h = grind (arith, pair-once)
 
 -- what is read leads to what is asked for
-pub reaches-is : (tz : TimeZone) (words : List (List ℕ)) (i start j : ℤ) → Resolves tz i start → Chain tz (pairs_read words) start j → Reaches (MinusPairs (pairs words)) tz i j
+pub reaches-is : (tz : TimeZone) (words : List (List ℕ)) (i start j : ℤ) → Resolves tz i start → Chain tz (pairs_read words) start j
+    → Reaches (MinusPairs (pairs words)) tz i j
 reaches-is tz words i start j h g = (start, h, subst (λ ps. Chain tz ps start j) (sym (pairs_are_read words)) g)
 
-pub reaches-back : (tz : TimeZone) (words : List (List ℕ)) (i start j : ℤ) → Resolves tz i start → Reaches (MinusPairs (pairs words)) tz i j → Chain tz (pairs_read words) start j
+pub reaches-back : (tz : TimeZone) (words : List (List ℕ)) (i start j : ℤ) → Resolves tz i start → Reaches (MinusPairs (pairs words)) tz i j
+    → Chain tz (pairs_read words) start j
 reaches-back tz words i start j h g =
     let from = subst (λ (k : ℤ). Chain tz (pairs words) k j) (resolves-once tz i g.0 start g.1 h) g.2 in
     subst (λ ps. Chain tz ps start j) (pairs_are_read words) from
@@ -61,7 +65,8 @@ named-once date moment a b h g =
     (h.offset_is ∙ ap (λ (i : ℤ). offset_at tz i) same ∙ sym g.offset_is)
 
 -- so it comes to one result from each moment, or from none
-outcome-once : (date : RelativeDate) (now : Option Zoned) (a b : Result Time ParseError) → RelativeOutcome date now a → RelativeOutcome date now b → a ≡ b
+outcome-once : (date : RelativeDate) (now : Option Zoned) (a b : Result Time ParseError) → RelativeOutcome date now a
+    → RelativeOutcome date now b → a ≡ b
 outcome-once date None a b h g = h ∙ sym g
 outcome-once date (Some moment) (Ok t) (Ok u) h g = ap Ok (named-once date moment t u h g)
 outcome-once date (Some moment) (Ok t) (Err e) h g = absurd (g.1 t h)

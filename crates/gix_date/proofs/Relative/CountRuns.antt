@@ -12,6 +12,7 @@ turns false true = refl
 turns false false = refl
 
 -- after a count word what was free is no longer so, and the other way round; after another word the next is free
-pub free_after : (front : List (List ℕ)) (w : List ℕ) → next_is_free (front ++ w ∷ []) ≡ cond (is_count_word w) (not (next_is_free front)) true
+pub free_after : (front : List (List ℕ)) (w : List ℕ)
+    → next_is_free (front ++ w ∷ []) ≡ cond (is_count_word w) (not (next_is_free front)) true
 unfolding next_is_free
 free_after front w = grind (arith, fold-append, turns)

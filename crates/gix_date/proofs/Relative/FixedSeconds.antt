@@ -10,9 +10,11 @@ use Rattle.jiff.specs.declared.zoned.Zoned.{Zoned}
 use Rattle.jiff_core.proofs.SignedLemmas.{signed_arith}
 use Rattle.jiff_tz.specs.Zone.{IsFixed}
 use Rattle.gix_date.specs.Relative.Dates.{MinusSeconds, Reaches}
-use Rattle.gix_date.specs.Relative.FixedZones.{product, total, ProductFits, less_seconds, IsNonnegativePair, NamesSum, NamesAlike, IgnoresOrder}
+use Rattle.gix_date.specs.Relative.FixedZones.{product, total, ProductFits, less_seconds, IsNonnegativePair, NamesSum, NamesAlike}
+use Rattle.gix_date.specs.Relative.FixedZones.{IgnoresOrder}
 use Rattle.gix_date.specs.Relative.Steps.{zone_of, SecondsStep, Chain}
-use Rattle.gix_date.proofs.Relative.FixedZones.{IsLoss, IsBefore, all-loss, one-loss, same-seconds, second_steps, total-loss, total-sum_by, products-fit}
+use Rattle.gix_date.proofs.Relative.FixedZones.{IsLoss, IsBefore, all-loss, one-loss, same-seconds, second_steps, total-loss, total-sum_by}
+use Rattle.gix_date.proofs.Relative.FixedZones.{products-fit}
 use Rattle.gix_date.proofs.Relative.FixedSteps.{fixed-keeps}
 use Rattle.gix_date.proofs.Relative.Steps.{resolves-once}
 
@@ -60,12 +62,16 @@ names-sum z pairs f loss = fixed-sum (zone_of z) f pairs (zoned_nanos z) loss (p
 
 -- an instant that is reached lies within `jiff`'s range, so an i64 holds what was taken off the moment
 pub seconds-law : (z : Zoned) (pairs : List (ℤ × ℤ)) → IsFixed (zone_of z) → All IsLoss pairs
-    → (j : ℤ) → Reaches (less_seconds pairs) (zone_of z) (zoned_nanos z) j ↔ ((j ≡ zoned_nanos z -ℤ nanos_of_seconds (total pairs)) × IsTimestampNanos j)
+    → (j : ℤ) → Reaches (less_seconds pairs) (zone_of z) (zoned_nanos z) j ↔
+    ((j ≡ zoned_nanos z -ℤ nanos_of_seconds (total pairs)) × IsTimestampNanos j)
 unfolding NamesSum
 seconds-law z pairs f loss j =
     let range = (plain_zoned z).timestamp.in_range in
-    let law = names-sum z pairs f loss j in
-    (λ h. let r = law.0 h in (r.0, r.2), λ h. law.1 (h.0, products-fit pairs loss (omega (arith, signed_arith, range, h.0, h.1, total-loss pairs loss)), h.1))
+    let law = names-sum z pairs f loss j in (
+      λ h. let r = law.0 h in
+          (r.0, r.2),
+      λ h. law.1 (h.0, products-fit pairs loss (omega (arith, signed_arith, range, h.0, h.1, total-loss pairs loss)), h.1),
+    )
 
 -- what the laws promise: that `yesterday` is one day, and that pairs add up, in any order
 pub yesterday_alike : (z : Zoned) → IsFixed (zone_of z)

@@ -5,7 +5,8 @@ use Rattle.std.proofs.Common.{◌≡◌, ◌∙◌, ◌↔◌, ◌≤◌, ℤ, p
 use Rattle.std.specs.List.{All}
 use Rattle.jiff.proofs.ZoneFacts.{offset_at-fixed_zone, picked_instant-fixed_zone}
 use Rattle.jiff.specs.Types.{TimeZone, DateTime, Offset}
-use Rattle.jiff.specs.Words.{plain_zoned, zoned_nanos, fixed_zone, offset_at, picked_instant, civil_nanos, nanos_of_seconds, IsTimestampNanos}
+use Rattle.jiff.specs.Words.{plain_zoned, zoned_nanos, fixed_zone, offset_at, picked_instant, civil_nanos, nanos_of_seconds}
+use Rattle.jiff.specs.Words.{IsTimestampNanos}
 use Rattle.jiff.specs.declared.zoned.Zoned.{Zoned}
 use Rattle.jiff_tz.specs.Zone.{IsFixed, utc_offset, ambiguous_at}
 use Rattle.jiff_tz.specs.declared.timezone.TimeZone.TheVariants.{Fixed, Posix, Tzif}
@@ -18,7 +19,8 @@ use Rattle.gix_date.specs.declared.parsing.relative.words.TimeUnit.TheVariants.{
 use Rattle.gix_date.proofs.Relative.FixedZones.{IsLoss, all-loss, months-fixed, fixed-resolves-exists}
 use Rattle.gix_date.proofs.Relative.Steps.{shows-local}
 
-picks : (tz : TimeZone) (o : Offset) → IsFixed tz → ((n : ℤ) → o.seconds ≡ offset_at tz n) → (dt : DateTime) → picked_instant tz dt ≡ civil_nanos dt -ℤ nanos_of_seconds o.seconds
+picks : (tz : TimeZone) (o : Offset) → IsFixed tz → ((n : ℤ) → o.seconds ≡ offset_at tz n) → (dt : DateTime)
+    → picked_instant tz dt ≡ civil_nanos dt -ℤ nanos_of_seconds o.seconds
 unfolding offset_at ambiguous_at
 picks (Posix r) o f h dt = absurd f
 picks (Tzif z) o f h dt = absurd f
@@ -35,7 +37,8 @@ local-alike : (a b : TimeZone) → ChooseAlike a b → (i : ℤ) (dt : DateTime)
 local-alike a b h i dt l = l ∙ ap (λ (s : ℤ). i +ℤ nanos_of_seconds s) (h.offset i)
 
 pub picked-alike : (a b : TimeZone) → ChooseAlike a b → (civil j : ℤ) → IsPicked a civil j → IsPicked b civil j
-picked-alike a b h civil j p = record { shown = p.shown; civil_is = p.civil_is; is_choice = p.is_choice ∙ h.picks p.shown; in_range = p.in_range }
+picked-alike a b h civil j p =
+    record { shown = p.shown; civil_is = p.civil_is; is_choice = p.is_choice ∙ h.picks p.shown; in_range = p.in_range }
 
 pub resolves-alike : (a b : TimeZone) → ChooseAlike a b → (i j : ℤ) → Resolves a i j → Resolves b i j
 resolves-alike a b h i j s = record {
@@ -50,7 +53,8 @@ step-alike a b h (n, Months size) i j (fits, s) = search (rules, local-alike, pi
 
 chain-alike : (a b : TimeZone) → ChooseAlike a b → (list : List (ℤ × TimeUnit)) (i j : ℤ) → Chain a list i j → Chain b list i j
 chain-alike a b h [] i j c = c
-chain-alike a b h (pair ∷ more) i j (between, step, rest) = (between, step-alike a b h pair i between step, chain-alike a b h more between j rest)
+chain-alike a b h (pair ∷ more) i j (between, step, rest) =
+    (between, step-alike a b h pair i between step, chain-alike a b h more between j rest)
 
 pub reaches-alike : (a b : TimeZone) → ChooseAlike a b → (date : RelativeDate) (i j : ℤ) → Reaches date a i j → Reaches date b i j
 reaches-alike a b h (MinusSeconds seconds) i j r = r
@@ -68,8 +72,10 @@ fixed-offset tz f = (utc_offset, λ n. refl)
 pub fixed-zone : (o : Offset) → IsFixed (fixed_zone o)
 fixed-zone o = grind (arith)
 
-months-in : (tz : TimeZone) → IsFixed tz → (i : ℤ) (dt : DateTime) (pairs : List (ℤ × ℤ)) → IsLocal tz i dt → dt.date.day ≤ 28 → IsTimestampNanos i
-    → All IsLoss pairs → FitsSigned w64 (total pairs) → (j : ℤ) → Reaches (less_months pairs) tz i j ↔ Reaches (less_months ((total pairs, pos 1) ∷ [])) tz i j
+months-in : (tz : TimeZone) → IsFixed tz → (i : ℤ) (dt : DateTime) (pairs : List (ℤ × ℤ)) → IsLocal tz i dt → dt.date.day ≤ 28
+    → IsTimestampNanos i
+    → All IsLoss pairs → FitsSigned w64 (total pairs) → (j : ℤ)
+    → Reaches (less_months pairs) tz i j ↔ Reaches (less_months ((total pairs, pos 1) ∷ [])) tz i j
 months-in tz f i dt pairs local day range loss fits j =
     let o = fixed-offset tz f in
     let zone = fixed_zone o.0 in
@@ -87,7 +93,8 @@ pub months_alike : (z : Zoned) (pairs : List (ℤ × ℤ)) → IsFixed (zone_of 
 unfolding NamesAlike
 months_alike z pairs f nonnegative fits day =
     let plain = plain_zoned z in
-    months-in (zone_of z) f (zoned_nanos z) plain.datetime pairs (shows-local plain) day plain.timestamp.in_range (all-loss pairs nonnegative) fits
+    months-in (zone_of z) f (zoned_nanos z) plain.datetime pairs (shows-local plain) day plain.timestamp.in_range
+    (all-loss pairs nonnegative) fits
 
 -- a zone of one offset resolves each instant to itself
 pub fixed-keeps : (tz : TimeZone) → IsFixed tz → (i : ℤ) → IsTimestampNanos i → Resolves tz i i

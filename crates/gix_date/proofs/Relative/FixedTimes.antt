@@ -23,8 +23,8 @@ zone-offset : (t : Time) (z : Zoned) → IsMoment t z → (n : ℤ) → offset_a
 zone-offset t z m n = ap (λ (tz : TimeZone). offset_at tz n) m.zone.2 ∙ offset_at-fixed_zone m.zone.0 n ∙ m.zone.1
 
 -- a moment of a time has such a zone
-pub moment-fixed : (t : Time) (z : Zoned) → IsMoment t z → IsFixed (zone_of z)
-moment-fixed t z m = subst IsFixed (sym m.zone.2) (fixed-zone m.zone.0)
+pub moment_fixed : (t : Time) (z : Zoned) → IsMoment t z → IsFixed (zone_of z)
+moment_fixed t z m = subst IsFixed (sym m.zone.2) (fixed-zone m.zone.0)
 
 abbrev IsEarlierInstant : Zoned → ℤ → ℤ → Type 0
 IsEarlierInstant z n j = (j ≡ zoned_nanos z -ℤ nanos_of_seconds n) × IsTimestampNanos j
@@ -39,8 +39,10 @@ names-earlier date t n law z m r =
           let at = (law z m h.instant).0 h.reaches in
           let is : h.instant ≡ (t.seconds -ℤ n) *ℤ pos 1_000_000_000 = omega (arith, signed_arith, at.0, m.instant) in
           let seconds = h.seconds_is ∙ whole_seconds h.instant (t.seconds -ℤ n) is in
-          let range = (instant_range h.instant (t.seconds -ℤ n) is).0 at.1 in
-          (same-time r (earlier t n) seconds (h.offset_is ∙ zone-offset t z m h.instant), subst (λ (s : ℤ). is_instant s ≡ true) (sym seconds) (instant_from (t.seconds -ℤ n) range)),
+          let range = (instant_range h.instant (t.seconds -ℤ n) is).0 at.1 in (
+            same-time r (earlier t n) seconds (h.offset_is ∙ zone-offset t z m h.instant),
+            subst (λ (s : ℤ). is_instant s ≡ true) (sym seconds) (instant_from (t.seconds -ℤ n) range),
+          ),
       λ h.
           let seconds : r.seconds ≡ t.seconds -ℤ n = ap (λ (q : Time). q.seconds) h.0 in
           let offset : r.offset ≡ t.offset = ap (λ (q : Time). q.offset) h.0 in
@@ -56,11 +58,12 @@ names-earlier date t n law z m r =
 
 pub seconds-earlier : (t : Time) (pairs : List (ℤ × ℤ)) → All IsLoss pairs
     → NamesEarlier (less_seconds pairs) t (total pairs)
-seconds-earlier t pairs loss = search (rules, names-earlier, seconds-law, moment-fixed)
+seconds-earlier t pairs loss = search (rules, names-earlier, seconds-law, moment_fixed)
 
 -- The same from each moment, by the instant that is reached.
 abbrev NamesOnly : RelativeDate → Zoned → ℤ → Type 0
 NamesOnly date z due = (t : Time) → IsNamed date z t ↔ ((t ≡ time_in (zone_of z) due) × IsTimestampNanos due)
 
-pub names-before : (date : RelativeDate) (z : Zoned) (due : ℤ) → ((j : ℤ) → Reaches date (zone_of z) (zoned_nanos z) j ↔ ((j ≡ due) × IsTimestampNanos j)) → NamesOnly date z due
+pub names-before : (date : RelativeDate) (z : Zoned) (due : ℤ)
+    → ((j : ℤ) → Reaches date (zone_of z) (zoned_nanos z) j ↔ ((j ≡ due) × IsTimestampNanos j)) → NamesOnly date z due
 names-before date z due law t = grind (arith, same-time)

@@ -2,7 +2,8 @@
 use Rattle.std.proofs.lemmas.Bool.Decides.{nat_tests}
 use Rattle.std.proofs.lemmas.Grind.{common_steps}
 use Rattle.std.proofs.Common.{rules}
-use Rattle.std.proofs.Common.{◌≡◌, ◌∙◌, ◌↔◌, ◌≤◌, ◌+◌, ◌-◌, ℕ, ℤ, pos, negsuc, ◌+ℤ◌, ◌-ℤ◌, ◌*ℤ◌, ◌≤ℤ◌, unsigned_abs, FitsSigned, w64, refl, sym, ap, subst, arith, List, [], ◌∷◌, map, slice_index_or}
+use Rattle.std.proofs.Common.{◌≡◌, ◌∙◌, ◌↔◌, ◌≤◌, ◌+◌, ◌-◌, ℕ, ℤ, pos, negsuc, ◌+ℤ◌, ◌-ℤ◌, ◌*ℤ◌, ◌≤ℤ◌, unsigned_abs, FitsSigned, w64, refl}
+use Rattle.std.proofs.Common.{sym, ap, subst, arith, List, [], ◌∷◌, map, slice_index_or}
 use Rattle.std.specs.Int.{int_div_euclid, int_rem_euclid}
 use Rattle.std.specs.List.{All, sum_by}
 use Rattle.std.proofs.lemmas.List.Elements.{All-nil, All-head, All-tail, All-cons}
@@ -170,7 +171,12 @@ civil-there : (m : ℤ) (day : ℕ) (time : TimeOfDay) (small : IsSmall day) (ye
     → civil_nanos (shown-there m day time small year) ≡ civil_of (month_start m +ℤ (pos day -ℤ pos 1)) time
 civil-there m day time small year =
     let dt = shown-there m day time small year in
-    omega (arith, signed_arith, civil_nanos-parts dt, days_from_civil-day (int_div_euclid m (pos 12)) (unsigned_abs (int_rem_euclid m (pos 12)) + 1) 1 day (omega arith) small.0)
+    omega (
+      arith,
+      signed_arith,
+      civil_nanos-parts dt,
+      days_from_civil-day (int_div_euclid m (pos 12)) (unsigned_abs (int_rem_euclid m (pos 12)) + 1) 1 day (omega arith) small.0,
+    )
 
 local-there : (o : Offset) (m : ℤ) (day : ℕ) (time : TimeOfDay) (small : IsSmall day) (year : IsYear (int_div_euclid m (pos 12)))
     → IsLocal (fixed_zone o) (place o day time m) (shown-there m day time small year)
@@ -181,12 +187,14 @@ picked-there : (o : Offset) (m : ℤ) (day : ℕ) (time : TimeOfDay) → IsSmall
 picked-there o m day time small h =
     let dt = shown-there m day time small h.year_in in
     let civil = civil-there m day time small h.year_in in
-    subst (λ (n : ℤ). IsPicked (fixed_zone o) n (place o day time m)) civil (fixed-picks o dt (place o day time m) (ap (λ (n : ℤ). n -ℤ nanos_of_seconds o.seconds) (sym civil)) h.in_range)
+    subst (λ (n : ℤ). IsPicked (fixed_zone o) n (place o day time m)) civil
+    (fixed-picks o dt (place o day time m) (ap (λ (n : ℤ). n -ℤ nanos_of_seconds o.seconds) (sym civil)) h.in_range)
 
 -- a step of months off that day of the month of this number
 abbrev Goes : Offset → ℕ → TimeOfDay → ℤ → ℤ → ℤ → Type 0
 Goes o day time n j number =
-    FitsSigned w64 (number -ℤ n) × IsYear (int_div_euclid (number -ℤ n) (pos 12)) × IsPicked (fixed_zone o) (civil_of (month_start (number -ℤ n) +ℤ (pos day -ℤ pos 1)) time) j
+    FitsSigned w64 (number -ℤ n) × IsYear (int_div_euclid (number -ℤ n) (pos 12))
+    × IsPicked (fixed_zone o) (civil_of (month_start (number -ℤ n) +ℤ (pos day -ℤ pos 1)) time) j
 
 -- leads to the same day of an earlier month
 pub months-to : (o : Offset) (day : ℕ) (time : TimeOfDay) (m n j : ℤ) → IsSmall day → IsPlaced o day time m
@@ -216,7 +224,8 @@ month-shorter a b year le =
     let y = int_div_euclid a (pos 12) in
     let m = unsigned_abs (int_rem_euclid a (pos 12)) + 1 in
     let before = days_from_civil-month y (int_div_euclid b (pos 12)) m (unsigned_abs (int_rem_euclid b (pos 12)) + 1) 28 1
-    (year, month_found a, long-enough a 28 (omega arith, omega arith)) (month_found b).0 (month_found b).1 (omega arith) (omega (arith, signed_arith, le, number-there a, number-there b)) in
+    (year, month_found a, long-enough a 28 (omega arith, omega arith)) (month_found b).0 (month_found b).1 (omega arith)
+    (omega (arith, signed_arith, le, number-there a, number-there b)) in
     omega (arith, signed_arith, before, days_from_civil-day y m 1 28 (omega arith) (omega arith))
 
 months-order : (a b : ℤ) → IsYear (int_div_euclid a (pos 12)) → a ≤ℤ b → month_start a ≤ℤ month_start b
@@ -233,14 +242,20 @@ between-placed o day time a b c low high le ge =
     (omega (arith, signed_arith, low.year_in, le), omega (arith, signed_arith, high.year_in, ge)) in
     let first = months-order a b low.year_in le in
     let last = months-order b c year ge in
-    record { fits = fits; year_in = year; in_range = (omega (arith, signed_arith, first, low.in_range), omega (arith, signed_arith, last, high.in_range)) }
+    record {
+      fits = fits;
+      year_in = year;
+      in_range =
+          (omega (arith, signed_arith, first, low.in_range), omega (arith, signed_arith, last, high.in_range));
+    }
 
 abbrev pub month_steps : List (ℤ × ℤ) → List (ℤ × TimeUnit)
 month_steps pairs = map (λ p. (p.0, Months p.1)) pairs
 
 pub months-chain : (o : Offset) (day : ℕ) (time : TimeOfDay) (pairs : List (ℤ × ℤ)) (m j : ℤ) → IsSmall day → All IsLoss pairs
     → IsPlaced o day time m
-    → Chain (fixed_zone o) (month_steps pairs) (place o day time m) j → IsPlaced o day time (m -ℤ total pairs) × (j ≡ place o day time (m -ℤ total pairs))
+    → Chain (fixed_zone o) (month_steps pairs) (place o day time m) j
+    → IsPlaced o day time (m -ℤ total pairs) × (j ≡ place o day time (m -ℤ total pairs))
 months-chain o day time [] m j small loss here h =
     let same : m ≡ (m -ℤ pos 0) = omega (arith, signed_arith) in
     (subst (IsPlaced o day time) same here, h ∙ ap (place o day time) same)
@@ -254,7 +269,8 @@ months-chain o day time (p ∷ more) m j small loss here (between, step, rest) =
 
 pub months-chain-back : (o : Offset) (day : ℕ) (time : TimeOfDay) (pairs : List (ℤ × ℤ)) (m : ℤ) → IsSmall day → All IsLoss pairs
     → FitsSigned w64 (total pairs) → IsPlaced o day time m
-    → IsPlaced o day time (m -ℤ total pairs) → Chain (fixed_zone o) (month_steps pairs) (place o day time m) (place o day time (m -ℤ total pairs))
+    → IsPlaced o day time (m -ℤ total pairs)
+    → Chain (fixed_zone o) (month_steps pairs) (place o day time m) (place o day time (m -ℤ total pairs))
 months-chain-back o day time [] m small loss fits here there = search (rules, signed_arith)
 months-chain-back o day time (p ∷ more) m small loss fits here there =
     let falls = All-head IsLoss p more loss in
@@ -265,8 +281,12 @@ months-chain-back o day time (p ∷ more) m small loss fits here there =
     let next = between-placed o day time (m -ℤ total (p ∷ more)) (m -ℤ product p) m there here below above in
     let one : FitsSigned w64 (product p) = omega (arith, signed_arith, left, fits, falls) in
     let others : FitsSigned w64 (total more) = omega (arith, signed_arith, left, fits, falls) in
-    let last = months-chain-back o day time more (m -ℤ product p) small (All-tail IsLoss p more loss) others next (subst (IsPlaced o day time) (sym same) there) in
-    (place o day time (m -ℤ product p), (one, months-from o day time m (product p) small here next), subst (λ (k : ℤ). Chain (fixed_zone o) (month_steps more) (place o day time (m -ℤ product p)) (place o day time k)) same last)
+    let last = months-chain-back o day time more (m -ℤ product p) small (All-tail IsLoss p more loss) others next
+    (subst (IsPlaced o day time) (sym same) there) in (
+      place o day time (m -ℤ product p),
+      (one, months-from o day time m (product p) small here next),
+      subst (λ (k : ℤ). Chain (fixed_zone o) (month_steps more) (place o day time (m -ℤ product p)) (place o day time k)) same last,
+    )
 
 -- what a list of such pairs leads to: the same day, so many months before
 abbrev MonthsBefore : Offset → ℕ → TimeOfDay → ℤ → ℤ → Type 0
@@ -280,7 +300,8 @@ months-of o day time pairs m small loss fits here j = (
   λ h. (
     place o day time m,
     fixed-resolves-exists o (place o day time m) here.in_range,
-    subst (λ (k : ℤ). Chain (fixed_zone o) (month_steps pairs) (place o day time m) k) (sym h.1) (months-chain-back o day time pairs m small loss fits here h.0),
+    subst (λ (k : ℤ). Chain (fixed_zone o) (month_steps pairs) (place o day time m) k) (sym h.1)
+        (months-chain-back o day time pairs m small loss fits here h.0),
   ),
 )
 
@@ -294,7 +315,8 @@ months-same o day time pairs m small loss fits here j =
     let one_is : IsLoss one = omega (arith, signed_arith, total-loss pairs loss) in
     let sum : total (one ∷ []) ≡ total pairs = omega (arith, signed_arith) in
     let many = months-of o day time pairs m small loss fits here j in
-    let single = subst (λ (n : ℤ). Reaches (less_months (one ∷ [])) (fixed_zone o) (place o day time m) j ↔ MonthsBefore o day time (m -ℤ n) j) sum
+    let single =
+    subst (λ (n : ℤ). Reaches (less_months (one ∷ [])) (fixed_zone o) (place o day time m) j ↔ MonthsBefore o day time (m -ℤ n) j) sum
     (months-of o day time (one ∷ []) m small (one-loss one one_is) (subst (FitsSigned w64) (sym sum) fits) here j) in
     (λ h. single.1 (many.0 h), λ h. many.1 (single.0 h))
 
@@ -315,4 +337,5 @@ months-fixed o i dt pairs local day range loss fits =
       year_in = subst IsYear (sym (year_of date)) year_in;
       in_range = subst IsTimestampNanos is range;
     } in
-    subst (SameMonths pairs (fixed_zone o)) (sym is) (months-same o date.day dt.time pairs (month_number date) (day_in.0, day) loss fits here)
+    subst (SameMonths pairs (fixed_zone o)) (sym is)
+    (months-same o date.day dt.time pairs (month_number date) (day_in.0, day) loss fits here)

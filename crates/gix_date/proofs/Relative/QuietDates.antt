@@ -1,5 +1,6 @@
 -- Formatted dates and numbers are quiet: their words are digits, and names of days, months and zones.
-use Rattle.std.proofs.Common.{◌≡◌, ◌∙◌, ◌+◌, ◌-◌, ◌≤◌, ℕ, ℤ, Bool, true, false, cond, List, [], ◌∷◌, ◌++◌, length, take, refl, ap, ap₂, sym, subst, arith, append_assoc, append-nil, Some, None, Option, option_map, inl, inr, ◌⊎◌, IsUtf8, suc, get_or}
+use Rattle.std.proofs.Common.{◌≡◌, ◌∙◌, ◌+◌, ◌-◌, ◌≤◌, ℕ, ℤ, Bool, true, false, cond, List, [], ◌∷◌, ◌++◌, length, take, refl, ap, ap₂, sym}
+use Rattle.std.proofs.Common.{subst, arith, append_assoc, append-nil, Some, None, Option, option_map, inl, inr, ◌⊎◌, IsUtf8, suc, get_or}
 use Rattle.std.proofs.lemmas.Bool.{and_parts as both}
 use Rattle.std.proofs.lemmas.Bool.Decides.{nat_tests}
 use Rattle.std.proofs.lemmas.List.Quantifiers.{position-Some}
@@ -9,22 +10,25 @@ use Rattle.std.specs.Option.{option_or}
 use Rattle.std.specs.Prelude.{◌==◌, ◌||◌, ◌&&◌, nat_le}
 use Rattle.std.specs.Str.{all_ascii_digits}
 use Rattle.std.specs.Str.Parse.{without_leading_sign}
-use Rattle.gix_date.specs.Fields.FieldTexts.{IsField, IsYear, AreSpaces, AreThreeLetters, IsDayName, IsMonthName, IsPlainDate, IsClock, IsRfc2822Clock, IsDayPrefix}
+use Rattle.gix_date.specs.Fields.FieldTexts.{IsField, IsYear, AreSpaces, AreThreeLetters, IsDayName, IsMonthName, IsPlainDate, IsClock}
+use Rattle.gix_date.specs.Fields.FieldTexts.{IsRfc2822Clock, IsDayPrefix}
 use Rattle.gix_date.specs.Families.Answer.{FamilyAnswer}
 use Rattle.gix_date.specs.Text.Characters.{minus, plus, colon, comma, letter_t}
-use Rattle.gix_date.specs.Fields.Layout.{LocalTime, Piece, DayName, Rfc2822DayName, MonthName, Day, Year, PlainDate, Clock, Rfc2822Clock, Spaces, LetterT, Offset, ColonOffset, Rfc2822Offset, IsPiece, ArePieces}
+use Rattle.gix_date.specs.Fields.Layout.{LocalTime, Piece, DayName, Rfc2822DayName, MonthName, Day, Year, PlainDate, Clock, Rfc2822Clock}
+use Rattle.gix_date.specs.Fields.Layout.{Spaces, LetterT, Offset, ColonOffset, Rfc2822Offset, IsPiece, ArePieces}
 use Rattle.gix_date.specs.Text.Names.{is_name, named_in, day_names, month_names}
 use Rattle.gix_date.specs.Text.Numbers.{int_value}
 use Rattle.gix_date.specs.Fields.Offsets.{offset_fields}
 use Rattle.gix_date.specs.Fields.DateFields.{is_weekday, month_named}
-use Rattle.gix_date.specs.Fields.DateOffsets.{compact_offset, strict_offset, rfc2822_zone, rfc2822_offset, named_zone, zone_names, jiff_offset}
+use Rattle.gix_date.specs.Fields.DateOffsets.{compact_offset, strict_offset, rfc2822_zone, rfc2822_offset, named_zone, zone_names}
+use Rattle.gix_date.specs.Fields.DateOffsets.{jiff_offset}
 use Rattle.gix_date.specs.Families.Patterns.{rfc2822_answer, iso8601_strict_answer, Accepts, IsMeaning}
 use Rattle.gix_date.specs.Relative.Dates.{date_names, named_date}
 use Rattle.gix_date.specs.Relative.Words.{relative_words, is_gap, singular, named_unit, unit_names, unit_of, is_ago}
 use Rattle.gix_date.specs.Relative.Roles.{has_unit}
 use Rattle.gix_date.specs.Text.SpaceWords.{space_words}
-use Rattle.gix_date.specs.declared.civil.ClockFields.{ClockFields}
-use Rattle.gix_date.specs.declared.civil.DateFields.{DateFields}
+use Rattle.gix_date.specs.declared.clock.ClockFields.{ClockFields}
+use Rattle.gix_date.specs.declared.clock.DateFields.{DateFields}
 use Rattle.gix_date.specs.declared.parsing.offset.OffsetFields.{OffsetFields}
 use Rattle.gix_date.proofs.Fields.ThreeLetters.{all-at}
 use Rattle.gix_date.proofs.Fields.FieldsRead.{digit-no-letter}
@@ -49,11 +53,13 @@ abbrev begins_small : List ℕ → Bool
 begins_small [] = false
 begins_small (n ∷ name) = nat_le 97 n && nat_le n 122
 
-small-first : (c n : ℕ) (t name : List ℕ) → is_ascii_alphabetic c ≡ false → begins_small (n ∷ name) ≡ true → is_name (c ∷ t) (n ∷ name) ≡ false
+small-first : (c n : ℕ) (t name : List ℕ) → is_ascii_alphabetic c ≡ false → begins_small (n ∷ name) ≡ true
+    → is_name (c ∷ t) (n ∷ name) ≡ false
 small-first c n t name h s = grind (arith, nat_tests, no_lower)
 
 -- it is in no table whose names begin so
-no-named : {A : Type 0} (table : List (List ℕ × A)) (c : ℕ) (t : List ℕ) → is_ascii_alphabetic c ≡ false → list_all (λ row. begins_small row.0) table ≡ true → named_in table (c ∷ t) ≡ None
+no-named : {A : Type 0} (table : List (List ℕ × A)) (c : ℕ) (t : List ℕ) → is_ascii_alphabetic c ≡ false
+    → list_all (λ row. begins_small row.0) table ≡ true → named_in table (c ∷ t) ≡ None
 no-named [] c t h all = refl
 no-named (([], said) ∷ rows) c t h all = absurd cc
 no-named ((n ∷ name, said) ∷ rows) c t h all =
@@ -64,7 +70,8 @@ no-name : (c : ℕ) (t : List ℕ) → is_ascii_alphabetic c ≡ false → named
 unfolding named_unit
 no-name c t h = no-named unit_names c t h refl
 
-cut-name : (b : Bool) (c d : ℕ) (t : List ℕ) → is_ascii_alphabetic c ≡ false → named_unit (cond b (take (length (c ∷ d ∷ t) - 1) (c ∷ d ∷ t)) (c ∷ d ∷ t)) ≡ None
+cut-name : (b : Bool) (c d : ℕ) (t : List ℕ) → is_ascii_alphabetic c ≡ false
+    → named_unit (cond b (take (length (c ∷ d ∷ t) - 1) (c ∷ d ∷ t)) (c ∷ d ∷ t)) ≡ None
 cut-name true c d t h =
     let long : length (c ∷ d ∷ t) - 1 ≡ suc (length t) = omega arith in
     ap (λ (n : ℕ). named_unit (take n (c ∷ d ∷ t))) long ∙ no-name c (take (length t) (d ∷ t)) h
@@ -164,7 +171,8 @@ quiet-day-name : (t : List ℕ) → IsDayName t → IsQuiet t
 unfolding is_weekday
 quiet-day-name t h = quiet-name t (letters-run t h.0) (like-any t day_names names-quiet.0 h.1)
 
-found-name : (t : List ℕ) (place : Option ℕ) (n : ℕ) → position (is_name t) month_names ≡ place → option_map {U = ℕ} (λ k. k + 1) place ≡ Some n → says_nothing t ≡ true
+found-name : (t : List ℕ) (place : Option ℕ) (n : ℕ) → position (is_name t) month_names ≡ place
+    → option_map {U = ℕ} (λ k. k + 1) place ≡ Some n → says_nothing t ≡ true
 found-name t None n e h = absurd cc
 found-name t (Some k) n e h =
     let at = position-Some (is_name t) month_names k [] e in
@@ -222,7 +230,8 @@ strict-signed x o e =
       rest = hour ++ (colon ∷ (minute ++ k.last));
       whole = k.whole;
       gap = sign_passes is_gap k.mark t.0.sign k.is_mark refl refl;
-      quiet = quiet-gap hour colon (minute ++ k.last) refl (quiet-digits hour hour_digits) (quiet-last minute k.last t.0.seconds k.is_last (quiet-digits minute minute_digits));
+      quiet = quiet-gap hour colon (minute ++ k.last) refl (quiet-digits hour hour_digits)
+          (quiet-last minute k.last t.0.seconds k.is_last (quiet-digits minute minute_digits));
     }
 
 quiet-colon-zone : (x : List ℕ) (o : ℤ) → strict_offset x ≡ Some o → IsQuiet x
@@ -251,9 +260,11 @@ quiet-t = quiet-word letter_t [] refl refl
 quiet-prefixed : (prefix rest : List ℕ) → (prefix ≡ []) ⊎ IsDayPrefix prefix → IsQuiet rest → IsQuiet (prefix ++ rest)
 quiet-prefixed prefix rest (inl none) q = subst (λ (p : List ℕ). IsQuiet (p ++ rest)) (sym none) q
 quiet-prefixed prefix rest (inr named) q =
-    let split : prefix ++ rest ≡ named.name ++ (comma ∷ (named.gap ++ rest)) = rw named.whole (append_assoc named.name (comma ∷ named.gap) rest) in
+    let split : prefix ++ rest ≡ named.name ++ (comma ∷ (named.gap ++ rest)) =
+    rw named.whole (append_assoc named.name (comma ∷ named.gap) rest) in
     subst IsQuiet (sym split)
-    (quiet-gap named.name comma (named.gap ++ rest) refl (quiet-day-name named.name named.is_name) (quiet-spaces [] named.gap rest named.are_spaces quiet-none q))
+    (quiet-gap named.name comma (named.gap ++ rest) refl (quiet-day-name named.name named.is_name)
+    (quiet-spaces [] named.gap rest named.are_spaces quiet-none q))
 
 quiet-piece : (p : Piece) (t : LocalTime) (x : List ℕ) → IsPiece p t x → IsQuiet x
 quiet-piece DayName t x h = quiet-day-name x h
@@ -286,7 +297,8 @@ quiet-pieces (p ∷ Spaces ∷ ps) s t x h =
 quiet-pieces (p ∷ q ∷ ps) s t x h = absurd s
 
 -- a date whose pieces have spaces between them
-pub quiet-dated : (family : List ℕ → Option FamilyAnswer) (of_time : LocalTime → Option FamilyAnswer) (layout : List Piece) → AreSpaced layout → Accepts family (IsMeaning layout of_time)
+pub quiet-dated : (family : List ℕ → Option FamilyAnswer) (of_time : LocalTime → Option FamilyAnswer) (layout : List Piece)
+    → AreSpaced layout → Accepts family (IsMeaning layout of_time)
     → (text : List ℕ) (answer : FamilyAnswer) → family text ≡ Some answer → IsQuiet text
 quiet-dated family of_time layout spaced law text answer e = let a = (law text answer).0 e in quiet-pieces layout spaced a.time text a.are
 
@@ -300,7 +312,8 @@ quiet-rfc2822 text answer e =
     let h = a.are in
     subst IsQuiet (sym h.whole) (quiet-prefixed h.front h.rest h.is (quiet-pieces after_rfc2822_day tt a.time h.rest h.more))
 
-quiet-strict-parts : (x d : List ℕ) (date : DateFields) (clock : ClockFields) (time zone : List ℕ) (o : ℤ) → IsPlainDate d date → IsClock time clock → strict_offset zone ≡ Some o
+quiet-strict-parts : (x d : List ℕ) (date : DateFields) (clock : ClockFields) (time zone : List ℕ) (o : ℤ) → IsPlainDate d date
+    → IsClock time clock → strict_offset zone ≡ Some o
     → x ≡ d ++ (letter_t ∷ (time ++ zone)) → IsQuiet x
 quiet-strict-parts x d date clock time zone o h c z e =
     let s = strict-signed zone o z in
@@ -309,12 +322,16 @@ quiet-strict-parts x d date clock time zone o h c z e =
     let joined = h.day ++ (letter_t ∷ c.hour) in
     let front = h.year ++ (minus ∷ h.month) in
     let clock_split : time ++ zone ≡ c.hour ++ (colon ∷ after_minute) =
-    ap₂ (λ (t z : List ℕ). t ++ z) c.whole s.whole ∙ (append_assoc (c.hour ++ (colon ∷ c.minute)) (colon ∷ c.second) (s.mark ∷ s.rest) ∙ append_assoc c.hour (colon ∷ c.minute) (colon ∷ after_second)) in
+    ap₂ (λ (t z : List ℕ). t ++ z) c.whole s.whole ∙ (append_assoc (c.hour ++ (colon ∷ c.minute)) (colon ∷ c.second) (s.mark ∷ s.rest)
+    ∙ append_assoc c.hour (colon ∷ c.minute) (colon ∷ after_second)) in
     let date_split : d ++ (letter_t ∷ (time ++ zone)) ≡ front ++ (minus ∷ (joined ++ (colon ∷ after_minute))) =
-    ap₂ (λ (t z : List ℕ). t ++ (letter_t ∷ z)) h.whole clock_split ∙ (append_assoc front (minus ∷ h.day) (letter_t ∷ (c.hour ++ (colon ∷ after_minute))) ∙ ap (λ (t : List ℕ). front ++ (minus ∷ t)) (sym (append_assoc h.day (letter_t ∷ c.hour) (colon ∷ after_minute)))) in
+    ap₂ (λ (t z : List ℕ). t ++ (letter_t ∷ z)) h.whole clock_split
+    ∙ (append_assoc front (minus ∷ h.day) (letter_t ∷ (c.hour ++ (colon ∷ after_minute)))
+    ∙ ap (λ (t : List ℕ). front ++ (minus ∷ t)) (sym (append_assoc h.day (letter_t ∷ c.hour) (colon ∷ after_minute)))) in
     subst IsQuiet (sym (e ∙ date_split))
     (quiet-gap front minus (joined ++ (colon ∷ after_minute)) refl
-    (quiet-gap h.year minus h.month refl (quiet-digits h.year (year-digits h.year date.year h.is_year)) (quiet-field h.month date.month h.is_month))
+    (quiet-gap h.year minus h.month refl (quiet-digits h.year (year-digits h.year date.year h.is_year))
+    (quiet-field h.month date.month h.is_month))
     (quiet-gap joined colon after_minute refl
     (quiet-joined h.day c.hour date.day clock.hour h.is_day c.is_hour)
     (quiet-gap c.minute colon after_second refl (quiet-field c.minute clock.minute c.is_minute)
@@ -329,13 +346,15 @@ quiet-strict text answer e =
     let zone = clock.more in
     let end : zone.front ++ zone.rest ≡ zone.front = ap (λ (t : List ℕ). zone.front ++ t) zone.more ∙ append-nil zone.front in
     quiet-strict-parts text date.front a.time.date a.time.clock clock.front zone.front a.time.offset date.is clock.is zone.is
-    (date.whole ∙ ap (λ (t : List ℕ). date.front ++ t) (mark.whole ∙ ap₂ (λ (s t : List ℕ). s ++ t) mark.is (clock.whole ∙ ap (λ (t : List ℕ). clock.front ++ t) (zone.whole ∙ end))))
+    (date.whole ∙ ap (λ (t : List ℕ). date.front ++ t)
+    (mark.whole ∙ ap₂ (λ (s t : List ℕ). s ++ t) mark.is (clock.whole ∙ ap (λ (t : List ℕ). clock.front ++ t) (zone.whole ∙ end))))
 
 -- Numbers, raw texts and at texts.
 sign_gap : (c : ℕ) → (c == minus || c == plus) ≡ true → is_gap c ≡ true
 sign_gap c h = grind (arith, nat_tests, h)
 
-quiet-number : (c : ℕ) (t : List ℕ) (p q : Bool) → (c == minus) ≡ p → (c == plus) ≡ q → all_ascii_digits (without_leading_sign (c ∷ t)) ≡ true → IsQuiet (c ∷ t)
+quiet-number : (c : ℕ) (t : List ℕ) (p q : Bool) → (c == minus) ≡ p → (c == plus) ≡ q
+    → all_ascii_digits (without_leading_sign (c ∷ t)) ≡ true → IsQuiet (c ∷ t)
 quiet-number c t true q e f h = quiet-after c t (sign_gap c (rw e refl)) (quiet-digits t (rw e at h))
 quiet-number c t false true e f h = quiet-after c t (sign_gap c (rw (e, f) refl)) (quiet-digits t (rw (e, f) at h))
 quiet-number c t false false e f h = quiet-digits (c ∷ t) (rw (e, f) at h)

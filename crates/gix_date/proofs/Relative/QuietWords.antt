@@ -1,5 +1,6 @@
 -- Texts whose words say nothing of a moment: no unit, no `ago`, no name of a day. No such text is relative.
-use Rattle.std.proofs.Common.{◌≡◌, ◌∙◌, ◌-◌, ℕ, Bool, true, false, cond, List, [], ◌∷◌, ◌++◌, filter, length, map, take, get_or, refl, ap, ap₂, sym, arith, Some, None, Option, IsUtf8, flat_map}
+use Rattle.std.proofs.Common.{◌≡◌, ◌∙◌, ◌-◌, ℕ, Bool, true, false, cond, List, [], ◌∷◌, ◌++◌, filter, length, map, take, get_or, refl, ap}
+use Rattle.std.proofs.Common.{ap₂, sym, arith, Some, None, Option, IsUtf8, flat_map}
 use Rattle.std.proofs.Math.ListN.{get_or-map}
 use Rattle.std.proofs.Math.Bool.{and-false}
 use Rattle.std.proofs.lemmas.Bool.{and_parts as both, not-true as not_is}
@@ -17,7 +18,8 @@ use Rattle.gix_date.proofs.Relative.RelativeWordSteps.{run_ascii}
 use Rattle.gix_date.proofs.Text.Places.{any_place, all_places}
 use Rattle.gix_date.specs.Relative.Dates.{relative_date, date_names, named_date, pairs_date, RelativeDate}
 use Rattle.gix_date.specs.Relative.Words.{relative_words, is_gap, singular, named_unit, unit_names, unit_of, is_ago}
-use Rattle.gix_date.specs.Relative.Roles.{are_pairs, has_pair, all_units, has_flag, has_unit, is_count_word, next_is_free, has_next, next_is_unit}
+use Rattle.gix_date.specs.Relative.Roles.{are_pairs, has_pair, all_units, has_flag, has_unit, is_count_word, next_is_free, has_next}
+use Rattle.gix_date.specs.Relative.Roles.{next_is_unit}
 use Rattle.gix_date.specs.Text.SpaceWords.{is_nonempty}
 use Rattle.gix_date.proofs.Text.AsciiCuts.{ascii-by}
 use Rattle.gix_date.proofs.Fields.FieldsTaken.{none_is}
@@ -62,7 +64,8 @@ no-flag front (word ∷ words) h =
     let parts = both (says_nothing word) (list_all says_nothing words) h in
     rw ((says-parts word parts.0).ago, and-false (next_is_free front), no-flag (front ++ word ∷ []) words parts.1) refl
 
-no-unit : (front words : List (List ℕ)) → list_all says_nothing words ≡ true → any_place starts_pair front words ≡ true → all_places counts_unit front words ≡ false
+no-unit : (front words : List (List ℕ)) → list_all says_nothing words ≡ true → any_place starts_pair front words ≡ true
+    → all_places counts_unit front words ≡ false
 no-unit front [] h e = absurd cc
 no-unit front (word ∷ []) h e = let no = and-false (is_count front word) in absurd cc
 no-unit front (word ∷ period ∷ words) h e =
@@ -70,7 +73,8 @@ no-unit front (word ∷ period ∷ words) h e =
     let next = both (says_nothing period) (list_all says_nothing words) parts.1 in
     by_count (is_count front word) (says-parts period next.0).unit (no-unit (front ++ word ∷ []) (period ∷ words) parts.1) e
   where
-    by_count : (count : Bool) {unit pair units : Bool} → unit ≡ false → (pair ≡ true → units ≡ false) → ((count && true) || pair) ≡ true → ((not count || unit) && units) ≡ false
+    by_count : (count : Bool) {unit pair units : Bool} → unit ≡ false → (pair ≡ true → units ≡ false) → ((count && true) || pair) ≡ true
+        → ((not count || unit) && units) ≡ false
     by_count true u more e = rw u refl
     by_count false u more e = more e
 
@@ -110,12 +114,15 @@ like-ago word name e = ap (λ (t : List ℕ). bytes_eq t (str_to_ascii_lowercase
 pub like-name : (word name : List ℕ) → str_to_ascii_lowercase word ≡ str_to_ascii_lowercase name → is_name word ≡ is_name name
 like-name word name e = grind (arith)
 
-pub like-named : {A : Type 0} (table : List (List ℕ × A)) (word name : List ℕ) → str_to_ascii_lowercase word ≡ str_to_ascii_lowercase name → named_in table word ≡ named_in table name
+pub like-named : {A : Type 0} (table : List (List ℕ × A)) (word name : List ℕ) → str_to_ascii_lowercase word ≡ str_to_ascii_lowercase name
+    → named_in table word ≡ named_in table name
 like-named {A} [] word name e = refl
 like-named {A} ((other, said) ∷ rows) word name e =
-    ap₂ (λ (b : Bool) (found : Option A). cond b (Some said) found) (ap (λ (is : List ℕ → Bool). is other) (like-name word name e)) (like-named rows word name e)
+    ap₂ (λ (b : Bool) (found : Option A). cond b (Some said) found) (ap (λ (is : List ℕ → Bool). is other) (like-name word name e))
+    (like-named rows word name e)
 
-like-date : (word name : List ℕ) → str_to_ascii_lowercase word ≡ str_to_ascii_lowercase name → named_date name ≡ None → named_date word ≡ None
+like-date : (word name : List ℕ) → str_to_ascii_lowercase word ≡ str_to_ascii_lowercase name → named_date name ≡ None
+    → named_date word ≡ None
 unfolding named_date
 like-date word name e h = like-named date_names word name e ∙ h
 
@@ -139,11 +146,14 @@ unfolding singular
 lower-singular word =
     let place = length word - 1 in
     let long : length (str_to_ascii_lowercase word) ≡ length word = length-map word to_ascii_lowercase in
-    let last : to_ascii_lowercase (get_or word place 0) ≡ get_or (str_to_ascii_lowercase word) place 0 = sym (get_or-map to_ascii_lowercase word place 0) in
+    let last : to_ascii_lowercase (get_or word place 0) ≡ get_or (str_to_ascii_lowercase word) place 0 =
+    sym (get_or-map to_ascii_lowercase word place 0) in
     ap (λ (b : Bool). str_to_ascii_lowercase (cond b (take place word) word)) (is_s (get_or word place 0) ∙ ap (λ (c : ℕ). c == 115) last)
     ∙ lower_cond (get_or (str_to_ascii_lowercase word) place 0 == 115) (take place word) word
-    ∙ ap (λ (t : List ℕ). cond (get_or (str_to_ascii_lowercase word) place 0 == 115) t (str_to_ascii_lowercase word)) (sym (take-map to_ascii_lowercase place word))
-    ∙ ap (λ (n : ℕ). cond (get_or (str_to_ascii_lowercase word) (n - 1) 0 == 115) (take (n - 1) (str_to_ascii_lowercase word)) (str_to_ascii_lowercase word)) (sym long)
+    ∙ ap (λ (t : List ℕ). cond (get_or (str_to_ascii_lowercase word) place 0 == 115) t (str_to_ascii_lowercase word))
+    (sym (take-map to_ascii_lowercase place word))
+    ∙ ap (λ (n : ℕ). cond (get_or (str_to_ascii_lowercase word) (n - 1) 0 == 115) (take (n - 1) (str_to_ascii_lowercase word))
+    (str_to_ascii_lowercase word)) (sym long)
 
 pub like-singular : (word name : List ℕ) → str_to_ascii_lowercase word ≡ str_to_ascii_lowercase name → has_unit word ≡ has_unit name
 unfolding has_unit unit_of
@@ -157,7 +167,8 @@ by-first : {T : Type 0} (a b : Bool) (first : a ≡ true → T) (more : b ≡ tr
 by-first true b first more e = first refl
 by-first false b first more e = more e
 
-pub like-any : (word : List ℕ) (names : List (List ℕ)) → list_all says_nothing names ≡ true → list_any (is_name word) names ≡ true → says_nothing word ≡ true
+pub like-any : (word : List ℕ) (names : List (List ℕ)) → list_all says_nothing names ≡ true → list_any (is_name word) names ≡ true
+    → says_nothing word ≡ true
 like-any word [] h e = absurd cc
 like-any word (name ∷ names) h e =
     let parts = both (says_nothing name) (list_all says_nothing names) h in
@@ -167,11 +178,13 @@ like-any word (name ∷ names) h e =
 abbrev pub names_of : {A : Type 0} → List (List ℕ × A) → List (List ℕ)
 names_of table = map (λ row. row.0) table
 
-pub named-any : {A : Type 0} (table : List (List ℕ × A)) (x : List ℕ) (a : A) → named_in table x ≡ Some a → list_any (is_name x) (names_of table) ≡ true
+pub named-any : {A : Type 0} (table : List (List ℕ × A)) (x : List ℕ) (a : A) → named_in table x ≡ Some a
+    → list_any (is_name x) (names_of table) ≡ true
 named-any [] x a e = absurd cc
 named-any ((name, said) ∷ rows) x a e = by-row (is_name x name) (named-any rows x a) e
   where
-    by-row : (b : Bool) → (named_in rows x ≡ Some a → list_any (is_name x) (names_of rows) ≡ true) → cond b (Some said) (named_in rows x) ≡ Some a → (b || list_any (is_name x) (names_of rows)) ≡ true
+    by-row : (b : Bool) → (named_in rows x ≡ Some a → list_any (is_name x) (names_of rows) ≡ true)
+        → cond b (Some said) (named_in rows x) ≡ Some a → (b || list_any (is_name x) (names_of rows)) ≡ true
     by-row true more e = refl
     by-row false more e = more e
 
@@ -179,7 +192,8 @@ named-any ((name, said) ∷ rows) x a e = by-row (is_name x name) (named-any row
 abbrev day_words : List (List ℕ)
 day_words = names_of date_names
 
-pub any-run : (x : List ℕ) (names : List (List ℕ)) → list_all (list_all is_ascii_alphanumeric) names ≡ true → list_any (is_name x) names ≡ true → list_all is_ascii_alphanumeric x ≡ true
+pub any-run : (x : List ℕ) (names : List (List ℕ)) → list_all (list_all is_ascii_alphanumeric) names ≡ true
+    → list_any (is_name x) names ≡ true → list_all is_ascii_alphanumeric x ≡ true
 any-run x [] h e = absurd cc
 any-run x (name ∷ names) h e =
     let parts = both (list_all is_ascii_alphanumeric name) (list_all (list_all is_ascii_alphanumeric) names) h in
@@ -193,7 +207,8 @@ named-word [] d e h = absurd cc
 named-word (c ∷ t) d e h = one-run-word c t h
 
 -- such a text is that word alone
-pub named-alone : (text : List ℕ) → IsUtf8 text → (d : RelativeDate) → named_date (trim text) ≡ Some d → relative_words text ≡ trim text ∷ []
+pub named-alone : (text : List ℕ) → IsUtf8 text → (d : RelativeDate) → named_date (trim text) ≡ Some d
+    → relative_words text ≡ trim text ∷ []
 unfolding named_date
 named-alone text u d e =
     let x = trim text in

@@ -22,9 +22,11 @@ abbrev here : Bool → Option ℤ → List (List ℕ) → Option Pair
 here free count ws = cond free (count >>= pair_with ws) None
 
 Both : List (List ℕ) → List (List ℕ) → Type 0
-Both front ws = (next_is_free front ≡ true → picked front ws ≡ pairs_from None ws) × (next_is_free front ≡ false → (n : ℤ) → cons_option (pair_with ws n) (picked front ws) ≡ pairs_from (Some n) ws)
+Both front ws = (next_is_free front ≡ true → picked front ws ≡ pairs_from None ws)
+    × (next_is_free front ≡ false → (n : ℤ) → cons_option (pair_with ws n) (picked front ws) ≡ pairs_from (Some n) ws)
 
-next_step : (r : Option ℤ) (front ws : List (List ℕ)) → next_is_free front ≡ cond (is_some r) false true → Both front ws → cons_option (here true r ws) (picked front ws) ≡ pairs_from r ws
+next_step : (r : Option ℤ) (front ws : List (List ℕ)) → next_is_free front ≡ cond (is_some r) false true → Both front ws
+    → cons_option (here true r ws) (picked front ws) ≡ pairs_from r ws
 unfolding Both
 next_step None front ws e ih = ih.0 e
 next_step (Some n) front ws e ih = ih.1 e n

@@ -5,7 +5,8 @@ use Rattle.std.specs.List.{fold}
 use Rattle.std.specs.Prelude.{not, ◌&&◌, ◌||◌}
 use Rattle.gix_date.specs.Relative.Words.{is_ago}
 use Rattle.gix_date.proofs.Text.Places.{any_place, all_places}
-use Rattle.gix_date.specs.Relative.Roles.{is_count_word, has_unit, next_is_free, has_next, next_is_unit, has_flag, has_pair, all_units, are_pairs}
+use Rattle.gix_date.specs.Relative.Roles.{is_count_word, has_unit, next_is_free, has_next, next_is_unit, has_flag, has_pair, all_units}
+use Rattle.gix_date.specs.Relative.Roles.{are_pairs}
 use Rattle.gix_date.specs.Relative.Scan.{step, verdict}
 use Rattle.gix_date.specs.declared.parsing.relative.pairs.Scan.{Scan}
 use Rattle.gix_date.proofs.Relative.CountRuns.{free_after}
@@ -19,7 +20,8 @@ flips false false even even' e f = sym (ap not f)
 flips x y even even' e f = sym (ap not (f ∙ sym e))
 
 -- how the waiting state goes on
-goes_on : (v a k g : Bool) (w : List ℕ) (front : List (List ℕ)) → v ≡ not (next_is_free front) → (step (scan v a k g) w).waiting ≡ not (next_is_free (front ++ w ∷ []))
+goes_on : (v a k g : Bool) (w : List ℕ) (front : List (List ℕ)) → v ≡ not (next_is_free front)
+    → (step (scan v a k g) w).waiting ≡ not (next_is_free (front ++ w ∷ []))
 goes_on true a k g w front e = flips true (is_count_word w) (next_is_free front) _ e (free_after front w)
 goes_on false a k g w front e = flips false (is_count_word w) (next_is_free front) _ e (free_after front w)
 
@@ -44,30 +46,41 @@ ago_of : (ws front : List (List ℕ)) (v a k g : Bool) → v ≡ not (next_is_fr
 ago_of [] front v a k g e = sym (or-false g)
 ago_of (w ∷ ws) front true a k g e =
     ago_of ws (front ++ w ∷ []) false true (k && has_unit w) g (goes_on true a k g w front e)
-    ∙ ap (λ b. g || (b || any_place (λ f w back. next_is_free f && is_ago w) (front ++ w ∷ []) ws)) (sym (off (next_is_free front) (is_ago w) e))
+    ∙ ap (λ b. g || (b || any_place (λ f w back. next_is_free f && is_ago w) (front ++ w ∷ []) ws))
+    (sym (off (next_is_free front) (is_ago w) e))
 ago_of (w ∷ ws) front false a k g e =
     ago_of ws (front ++ w ∷ []) (is_count_word w) a k (g || is_ago w) (goes_on false a k g w front e)
     ∙ or_assoc g (is_ago w) _
-    ∙ ap (λ b. g || (b || any_place (λ f w back. next_is_free f && is_ago w) (front ++ w ∷ []) ws)) (sym (on (next_is_free front) (is_ago w) e))
+    ∙ ap (λ b. g || (b || any_place (λ f w back. next_is_free f && is_ago w) (front ++ w ∷ []) ws))
+    (sym (on (next_is_free front) (is_ago w) e))
 
 any_of : (ws front : List (List ℕ)) (v a k g : Bool) → v ≡ not (next_is_free front)
-    → (fold step (scan v a k g) ws).any ≡ (a || ((v && has_next ws) || any_place (λ f w back. (next_is_free f && is_count_word w) && has_next back) front ws))
+    → (fold step (scan v a k g) ws).any
+    ≡ (a || ((v && has_next ws) || any_place (λ f w back. (next_is_free f && is_count_word w) && has_next back) front ws))
 any_of [] front v a k g e = none_any a v
-any_of (w ∷ ws) front true a k g e = any_of ws (front ++ w ∷ []) false true (k && has_unit w) g (goes_on true a k g w front e) ∙ sym (or-true a)
+any_of (w ∷ ws) front true a k g e = any_of ws (front ++ w ∷ []) false true (k && has_unit w) g (goes_on true a k g w front e)
+    ∙ sym (or-true a)
 any_of (w ∷ ws) front false a k g e =
     any_of ws (front ++ w ∷ []) (is_count_word w) a k (g || is_ago w) (goes_on false a k g w front e)
-    ∙ ap (λ b. a || ((b && has_next ws) || any_place (λ f w back. (next_is_free f && is_count_word w) && has_next back) (front ++ w ∷ []) ws)) (sym (on (next_is_free front) (is_count_word w) e))
+    ∙ ap (λ b. a
+    || ((b && has_next ws) || any_place (λ f w back. (next_is_free f && is_count_word w) && has_next back) (front ++ w ∷ []) ws))
+    (sym (on (next_is_free front) (is_count_word w) e))
 
 known_of : (ws front : List (List ℕ)) (v a k g : Bool) → v ≡ not (next_is_free front)
-    → (fold step (scan v a k g) ws).known ≡ (k && ((not v || next_is_unit ws) && all_places (λ f w back. not (next_is_free f && is_count_word w) || next_is_unit back) front ws))
+    → (fold step (scan v a k g) ws).known ≡ (k
+    && ((not v || next_is_unit ws) && all_places (λ f w back. not (next_is_free f && is_count_word w) || next_is_unit back) front ws))
 known_of [] front v a k g e = none_known k v
 known_of (w ∷ ws) front true a k g e =
     known_of ws (front ++ w ∷ []) false true (k && has_unit w) g (goes_on true a k g w front e)
     ∙ and_assoc k (has_unit w) _
-    ∙ ap (λ b. k && (has_unit w && ((not b || next_is_unit ws) && all_places (λ f w back. not (next_is_free f && is_count_word w) || next_is_unit back) (front ++ w ∷ []) ws))) (sym (off (next_is_free front) (is_count_word w) e))
+    ∙ ap (λ b. k && (has_unit w && ((not b || next_is_unit ws)
+    && all_places (λ f w back. not (next_is_free f && is_count_word w) || next_is_unit back) (front ++ w ∷ []) ws))) (sym (off
+    (next_is_free front) (is_count_word w) e))
 known_of (w ∷ ws) front false a k g e =
     known_of ws (front ++ w ∷ []) (is_count_word w) a k (g || is_ago w) (goes_on false a k g w front e)
-    ∙ ap (λ b. k && ((not b || next_is_unit ws) && all_places (λ f w back. not (next_is_free f && is_count_word w) || next_is_unit back) (front ++ w ∷ []) ws)) (sym (on (next_is_free front) (is_count_word w) e))
+    ∙ ap (λ b. k && ((not b || next_is_unit ws)
+    && all_places (λ f w back. not (next_is_free f && is_count_word w) || next_is_unit back) (front ++ w ∷ []) ws)) (sym
+    (on (next_is_free front) (is_count_word w) e))
 
 at_start : false ≡ not (next_is_free [])
 unfolding next_is_free
@@ -79,8 +92,10 @@ all_three a k g a' k' g' p q r = ap (λ b. b && (k || g)) p ∙ ap (λ b. a' && 
 pub verdict_of : (ws : List (List ℕ)) → verdict (fold step (scan false false true false) ws) ≡ are_pairs ws
 unfolding are_pairs has_pair all_units has_flag
 verdict_of ws =
-    all_three _ _ _ _ _ _ (any_of ws [] false false true false at_start) (known_of ws [] false false true false at_start) (ago_of ws [] false false true false at_start)
+    all_three _ _ _ _ _ _ (any_of ws [] false false true false at_start) (known_of ws [] false false true false at_start)
+    (ago_of ws [] false false true false at_start)
 
 -- a scan that was the loop's when no word was left
-pub verdict_at_end : (text rest : List (List ℕ)) (s : Scan) (r : Bool) → fold step s rest ≡ fold step (scan false false true false) text → rest ≡ [] → r ≡ verdict s → r ≡ are_pairs text
+pub verdict_at_end : (text rest : List (List ℕ)) (s : Scan) (r : Bool) → fold step s rest ≡ fold step (scan false false true false) text
+    → rest ≡ [] → r ≡ verdict s → r ≡ are_pairs text
 verdict_at_end text rest s r kept none is = is ∙ ap (λ ws. verdict (fold step s ws)) (sym none) ∙ ap verdict kept ∙ verdict_of text

@@ -1,9 +1,11 @@
 -- Steps that take a moment back, from what jiff's calls say.
 use Rattle.std.proofs.Common.{rules}
-use Rattle.std.proofs.Common.{◌≡◌, ◌∙◌, ◌↔◌, ◌+◌, ℤ, pos, ◌+ℤ◌, ◌-ℤ◌, unsigned_abs, FitsSigned, w64, refl, sym, ap, subst, arith, Option, None, Some}
+use Rattle.std.proofs.Common.{◌≡◌, ◌∙◌, ◌↔◌, ◌+◌, ℤ, pos, ◌+ℤ◌, ◌-ℤ◌, unsigned_abs, FitsSigned, w64, refl, sym, ap, subst, arith, Option}
+use Rattle.std.proofs.Common.{None, Some}
 use Rattle.std.specs.Int.{int_div_euclid, int_rem_euclid}
 use Rattle.std.specs.Prelude.{IsSome, IfSome}
-use Rattle.jiff.specs.Words.{picked_instant, civil_nanos, nanos_of_seconds, epoch_day, month_number, zoned_nanos, IsTimestampNanos, IsEpochDay, IsYear, IsBetween, IsDate, IsYmd}
+use Rattle.jiff.specs.Words.{picked_instant, civil_nanos, nanos_of_seconds, epoch_day, month_number, zoned_nanos, IsTimestampNanos}
+use Rattle.jiff.specs.Words.{IsEpochDay, IsYear, IsBetween, IsDate, IsYmd}
 use Rattle.jiff.specs.Types.{TimeZone, DateTime, Date, Time as TimeOfDay, PlainZoned}
 use Rattle.jiff.specs.declared.zoned.Zoned.{Zoned}
 use Rattle.jiff_core.proofs.CalendarLemmas.{days_in_month_bounds}
@@ -12,21 +14,25 @@ use Rattle.jiff_core.proofs.DateTimeLemmas.{civil_nanos-parts, time_nanos_bound}
 use Rattle.jiff_core.proofs.SignedLemmas.{signed_arith, one_part}
 use Rattle.jiff_core.specs.Calendar.{days_from_civil}
 use Rattle.jiff_zoned.proofs.SameLemmas.{same_datetime}
-use Rattle.gix_date.specs.Relative.Steps.{IsLocal, IsPicked, Resolves, MonthsStep, IsMonthsBefore, IsMonthsBeforeIfAny, civil_of, month_before, month_start, rolled_day, IsAt}
+use Rattle.gix_date.specs.Relative.Steps.{IsLocal, IsPicked, Resolves, MonthsStep, IsMonthsBefore, IsMonthsBeforeIfAny, civil_of}
+use Rattle.gix_date.specs.Relative.Steps.{month_before, month_start, rolled_day, IsAt}
 
 -- What a zone chooses.
 
-pub civil-of : (dt : DateTime) (date : Date) (time : TimeOfDay) → dt.date ≡ date → dt.time ≡ time → civil_nanos dt ≡ civil_of (epoch_day date) time
+pub civil-of : (dt : DateTime) (date : Date) (time : TimeOfDay) → dt.date ≡ date → dt.time ≡ time
+    → civil_nanos dt ≡ civil_of (epoch_day date) time
 civil-of dt date time d t = civil_nanos-parts dt ∙ rw (d, t) refl
 
-pub picked-is : (tz : TimeZone) (date : Date) (time : TimeOfDay) (dt : DateTime) (j : ℤ) → dt.date ≡ date → dt.time ≡ time → j ≡ picked_instant tz dt → IsTimestampNanos j → IsPicked tz (civil_of (epoch_day date) time) j
+pub picked-is : (tz : TimeZone) (date : Date) (time : TimeOfDay) (dt : DateTime) (j : ℤ) → dt.date ≡ date → dt.time ≡ time
+    → j ≡ picked_instant tz dt → IsTimestampNanos j → IsPicked tz (civil_of (epoch_day date) time) j
 picked-is tz date time dt j d t is range = record { shown = dt; civil_is = civil-of dt date time d t; is_choice = is; in_range = range }
 
 -- two datetimes with the same nanoseconds are one, so the choice is one
 picked-of : (tz : TimeZone) (dt : DateTime) (j : ℤ) → IsPicked tz (civil_nanos dt) j → j ≡ picked_instant tz dt
 picked-of tz dt j h = h.is_choice ∙ ap (λ (x : DateTime). picked_instant tz x) (same_datetime h.shown dt h.civil_is)
 
-pub picked-none : (tz : TimeZone) (date : Date) (time : TimeOfDay) (dt : DateTime) (j : ℤ) → dt.date ≡ date → dt.time ≡ time → ¬ (IsTimestampNanos (picked_instant tz dt)) → IsPicked tz (civil_of (epoch_day date) time) j → ⊥
+pub picked-none : (tz : TimeZone) (date : Date) (time : TimeOfDay) (dt : DateTime) (j : ℤ) → dt.date ≡ date → dt.time ≡ time
+    → ¬ (IsTimestampNanos (picked_instant tz dt)) → IsPicked tz (civil_of (epoch_day date) time) j → ⊥
 picked-none tz date time dt j d t beyond h =
     let here : IsPicked tz (civil_nanos dt) j = rw (civil-of dt date time d t) h in
     beyond (subst IsTimestampNanos (picked-of tz dt j here) h.in_range)
@@ -44,7 +50,8 @@ pub first-exists : (y m : ℤ) → IsYear y → IsBetween (pos 1) (pos 12) m →
 first-exists y m year month = grind (arith, days_in_month_bounds, signed_arith)
 
 -- the first of a month
-pub first-is : (number : ℤ) (first : Date) → IsYmd (int_div_euclid number (pos 12)) (int_rem_euclid number (pos 12) +ℤ pos 1) (pos 1) first → epoch_day first ≡ month_start number
+pub first-is : (number : ℤ) (first : Date) → IsYmd (int_div_euclid number (pos 12)) (int_rem_euclid number (pos 12) +ℤ pos 1) (pos 1) first
+    → epoch_day first ≡ month_start number
 first-is number first ymd = grind (arith, month_pos)
 
 pub year_of : (d : Date) → int_div_euclid (month_number d) (pos 12) ≡ d.year
@@ -62,7 +69,8 @@ day_of d =
 -- the day of a month, counted from the first of that month
 pub before-from : (date : Date) (months : ℤ) (first : Date) (before : Option Date) → FitsSigned w64 (month_before date months)
     → IsYear (int_div_euclid (month_before date months) (pos 12)) → epoch_day first ≡ month_start (month_before date months)
-    → (IsSome before ↔ IsEpochDay (epoch_day first +ℤ (pos date.day -ℤ pos 1))) → IfSome before (λ d. epoch_day d ≡ epoch_day first +ℤ (pos date.day -ℤ pos 1))
+    → (IsSome before ↔ IsEpochDay (epoch_day first +ℤ (pos date.day -ℤ pos 1)))
+    → IfSome before (λ d. epoch_day d ≡ epoch_day first +ℤ (pos date.day -ℤ pos 1))
     → IsMonthsBeforeIfAny date months before
 before-from date months first None fits year start some day = grind (arith, epoch_day_range)
 before-from date months first (Some before) fits year start some day = grind (arith)
@@ -73,10 +81,12 @@ before-from date months first (Some before) fits year start some day = grind (ar
 pub shows-local : (z : PlainZoned) → IsLocal z.time_zone z.timestamp.nanosecond z.datetime
 shows-local z = z.shows ∙ ap (λ (s : ℤ). z.timestamp.nanosecond +ℤ nanos_of_seconds s) z.offset_is
 
-pub resolves-is : (tz : TimeZone) (i j : ℤ) (shown : DateTime) → IsLocal tz i shown → j ≡ picked_instant tz shown → IsTimestampNanos j → Resolves tz i j
+pub resolves-is : (tz : TimeZone) (i j : ℤ) (shown : DateTime) → IsLocal tz i shown → j ≡ picked_instant tz shown → IsTimestampNanos j
+    → Resolves tz i j
 resolves-is tz i j shown l is range = search (rules)
 
-pub resolves-none : (tz : TimeZone) (i j : ℤ) (shown : DateTime) → IsLocal tz i shown → ¬ (IsTimestampNanos (picked_instant tz shown)) → Resolves tz i j → ⊥
+pub resolves-none : (tz : TimeZone) (i j : ℤ) (shown : DateTime) → IsLocal tz i shown → ¬ (IsTimestampNanos (picked_instant tz shown))
+    → Resolves tz i j → ⊥
 resolves-none tz i j shown l beyond h =
     let same : h.local ≡ shown = same_datetime h.local shown (h.local_is ∙ sym l) in
     let picked : IsPicked tz (civil_nanos shown) j = subst (λ (d : DateTime). IsPicked tz (civil_nanos d) j) same h.picked in
@@ -84,7 +94,8 @@ resolves-none tz i j shown l beyond h =
 
 abbrev pub MonthsFrom : TimeZone → ℤ → ℤ → DateTime → Type 0
 MonthsFrom tz n j local =
-    FitsSigned w64 (month_number local.date -ℤ n) × IsYear (int_div_euclid (month_number local.date -ℤ n) (pos 12)) × IsPicked tz (civil_of (rolled_day (month_number local.date -ℤ n) local.date) local.time) j
+    FitsSigned w64 (month_number local.date -ℤ n) × IsYear (int_div_euclid (month_number local.date -ℤ n) (pos 12))
+    × IsPicked tz (civil_of (rolled_day (month_number local.date -ℤ n) local.date) local.time) j
 
 -- a zone shows one datetime at an instant
 pub months-from : (tz : TimeZone) (n i j : ℤ) (shown : DateTime) → IsLocal tz i shown → MonthsStep tz n i j → MonthsFrom tz n j shown
@@ -92,7 +103,8 @@ months-from tz n i j shown l g =
     let same : g.local ≡ shown = same_datetime g.local shown (g.local_is ∙ sym l) in
     subst (MonthsFrom tz n j) same (g.fits, g.year_in, g.picked)
 
-pub months-step : (tz : TimeZone) (n i j : ℤ) (shown : DateTime) (date : Date) → IsLocal tz i shown → IsMonthsBefore shown.date n date → IsPicked tz (civil_of (epoch_day date) shown.time) j → MonthsStep tz n i j
+pub months-step : (tz : TimeZone) (n i j : ℤ) (shown : DateTime) (date : Date) → IsLocal tz i shown → IsMonthsBefore shown.date n date
+    → IsPicked tz (civil_of (epoch_day date) shown.time) j → MonthsStep tz n i j
 months-step tz n i j shown date l h p = record {
   local = shown;
   local_is = l;
@@ -101,17 +113,20 @@ months-step tz n i j shown date l h p = record {
   picked = subst (λ (d : ℤ). IsPicked tz (civil_of d shown.time) j) h.day_is p;
 }
 
-pub months-back : (tz : TimeZone) (n i j : ℤ) (shown : DateTime) (date : Date) → IsLocal tz i shown → IsMonthsBefore shown.date n date → MonthsStep tz n i j → IsPicked tz (civil_of (epoch_day date) shown.time) j
+pub months-back : (tz : TimeZone) (n i j : ℤ) (shown : DateTime) (date : Date) → IsLocal tz i shown → IsMonthsBefore shown.date n date
+    → MonthsStep tz n i j → IsPicked tz (civil_of (epoch_day date) shown.time) j
 months-back tz n i j shown date l h g =
     subst (λ (d : ℤ). IsPicked tz (civil_of d shown.time) j) (sym h.day_is) (months-from tz n i j shown l g).2
 
-pub months-none : (tz : TimeZone) (n i j : ℤ) (shown : DateTime) → IsLocal tz i shown → IsMonthsBeforeIfAny shown.date n None → MonthsStep tz n i j → ⊥
+pub months-none : (tz : TimeZone) (n i j : ℤ) (shown : DateTime) → IsLocal tz i shown → IsMonthsBeforeIfAny shown.date n None
+    → MonthsStep tz n i j → ⊥
 months-none tz n i j shown l none g =
     let from = months-from tz n i j shown l g in
     none from.2.shown.date (record { fits = from.0; year_in = from.1; day_is = picked-day tz _ shown.time j from.2 })
 
 -- the same instants, said otherwise
-pub at_same : (moment : Option Zoned) (Such Same : ℤ → Type 0) → ((j : ℤ) → Such j → Same j) → ((j : ℤ) → Same j → Such j) → IsAt Such moment → IsAt Same moment
+pub at_same : (moment : Option Zoned) (Such Same : ℤ → Type 0) → ((j : ℤ) → Such j → Same j) → ((j : ℤ) → Same j → Such j)
+    → IsAt Such moment → IsAt Same moment
 at_same None Such Same f g h = λ j s. h j (g j s)
 at_same (Some moment) Such Same f g h = f (zoned_nanos moment) h
 

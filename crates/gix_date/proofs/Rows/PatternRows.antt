@@ -5,10 +5,12 @@ use Rattle.std.specs.Prelude.{codes}
 use Rattle.gix_date.proofs.Rows.Tables.{Reads, Refuses, time, date, clock, minus}
 use Rattle.gix_date.specs.Computing.{computing}
 use Rattle.gix_date.specs.Families.Answer.{FamilyAnswer, Absolute, OffsetAboveDay, NoInstant}
-use Rattle.gix_date.specs.Fields.Layout.{LocalTime, Piece, DayName, Rfc2822DayName, MonthName, Day, Year, PlainDate, Clock, Rfc2822Clock, Spaces, LetterT, Offset, ColonOffset, Rfc2822Offset, nothing_read, layout_answer}
+use Rattle.gix_date.specs.Fields.Layout.{LocalTime, Piece, DayName, Rfc2822DayName, MonthName, Day, Year, PlainDate, Clock, Rfc2822Clock}
+use Rattle.gix_date.specs.Fields.Layout.{Spaces, LetterT, Offset, ColonOffset, Rfc2822Offset, nothing_read, layout_answer}
 use Rattle.gix_date.specs.Fields.DateFields.{skip_spaces, read_month, read_plain_date, read_rfc2822_clock}
 use Rattle.gix_date.specs.Fields.DateOffsets.{rfc2822_zone}
-use Rattle.gix_date.specs.Families.Patterns.{short_answer, rfc2822_answer, iso8601_answer, iso8601_strict_answer, gitoxide_answer, default_answer}
+use Rattle.gix_date.specs.Families.Patterns.{short_answer, rfc2822_answer, iso8601_answer, iso8601_strict_answer, gitoxide_answer}
+use Rattle.gix_date.specs.Families.Patterns.{default_answer}
 
 -- Each piece, where it is the whole text: what a text tells, and texts that are no such piece.
 abbrev alone : Piece → List ℕ → Option LocalTime

@@ -5,7 +5,8 @@ use Rattle.std.specs.Fmt.{digits}
 use Rattle.gix_date.proofs.Rows.Tables.{Texts, date, clock, minus}
 use Rattle.gix_date.specs.Header.Text.{header_text}
 use Rattle.gix_date.specs.Fields.Layout.{LocalTime}
-use Rattle.gix_date.specs.Printing.NamedTexts.{ShowsFourDigitFields, short_text, rfc2822_text, git_rfc2822_text, iso8601_text, iso8601_strict_text, gitoxide_text, default_text}
+use Rattle.gix_date.specs.Printing.NamedTexts.{ShowsFourDigitFields, short_text, rfc2822_text, git_rfc2822_text, iso8601_text}
+use Rattle.gix_date.specs.Printing.NamedTexts.{iso8601_strict_text, gitoxide_text, default_text}
 use Rattle.gix_date.specs.Printing.Formats.{HasNoText}
 use Rattle.gix_date.specs.declared.time.Time.{Time}
 use Rattle.gix_date.specs.declared.time.format.Format.TheVariants.{Unix, Raw}
@@ -37,7 +38,8 @@ printed :
 unfolding digits
 printed = refl
 
-four_digits : (z : PlainZoned) (year : ℕ) → z.datetime.date.year ≡ pos year → 1000 ≤ year → year ≤ 9999 → unsigned_abs z.offset.seconds % 60 ≡ 0 → ShowsFourDigitFields z
+four_digits : (z : PlainZoned) (year : ℕ) → z.datetime.date.year ≡ pos year → 1000 ≤ year → year ≤ 9999
+    → unsigned_abs z.offset.seconds % 60 ≡ 0 → ShowsFourDigitFields z
 four_digits z year is low high whole = record { year = year; year_is = is; low = low; high = high; minutes = whole }
 
 each-time-has-seconds : (t : Time) → ¬ (HasNoText t Unix)

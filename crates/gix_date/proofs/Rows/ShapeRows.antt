@@ -4,18 +4,23 @@ use Rattle.std.proofs.Common.{◌≡◌, refl, true, Bool, List, ℕ, [], ◌∷
 use Rattle.std.specs.List.{list_any}
 use Rattle.std.specs.Prelude.{◌==◌, codes, not}
 use Rattle.gix_date.specs.Computing.{computing}
-use Rattle.gix_date.specs.Families.Order.{Family, AtText, Short, Rfc2822, Iso8601, Iso8601Strict, Gitoxide, Default, BareEpoch, GitForm, RelativeText, RawText}
+use Rattle.gix_date.specs.Families.Order.{Family, AtText, Short, Rfc2822, Iso8601, Iso8601Strict, Gitoxide, Default, BareEpoch, GitForm}
+use Rattle.gix_date.specs.Families.Order.{RelativeText, RawText}
 use Rattle.gix_date.specs.Families.Laws.{Holds}
 use Rattle.gix_date.specs.Families.Raw.{is_quarter_offset}
-use Rattle.gix_date.specs.Families.Shapes.{begins_with_at, begins_with_letter, begins_with_year, begins_with_dashed_day, begins_with_dotted_day, begins_with_compact_day, begins_with_count, letter_shape, shape_of, shape_families, first_among, row_families}
+use Rattle.gix_date.specs.Families.Shapes.{begins_with_at, begins_with_letter, begins_with_year, begins_with_dashed_day}
+use Rattle.gix_date.specs.Families.Shapes.{begins_with_dotted_day, begins_with_compact_day, begins_with_count, letter_shape, shape_of}
+use Rattle.gix_date.specs.Families.Shapes.{shape_families, first_among, row_families}
 use Rattle.gix_date.specs.declared.parsing.shape.Shape.{Shape}
-use Rattle.gix_date.specs.declared.parsing.shape.Shape.TheVariants.{AtSign, Rfc2822Day, NamedDay, Word, DashedDay, GitDay, Count, WholeNumber, Other}
+use Rattle.gix_date.specs.declared.parsing.shape.Shape.TheVariants.{AtSign, Rfc2822Day, NamedDay, Word, DashedDay, GitDay, Count}
+use Rattle.gix_date.specs.declared.parsing.shape.Shape.TheVariants.{WholeNumber, Other}
 use Rattle.gix_date.proofs.Families.Exclusive.{place}
 use Rattle.gix_date.proofs.Rows.Tables.{AllGive}
 
 -- the definitions that a row computes
 pub shaping : Type 0
-unfolding computing shape_of letter_shape row_families begins_with_at begins_with_letter begins_with_year begins_with_dashed_day begins_with_dotted_day begins_with_compact_day begins_with_count
+unfolding computing shape_of letter_shape row_families begins_with_at begins_with_letter begins_with_year begins_with_dashed_day
+    begins_with_dotted_day begins_with_compact_day begins_with_count
 shaping = Unit {0}
 
 -- the family is one of the shape's
@@ -37,17 +42,22 @@ pub each-is-needed : (shape : Shape) (family : Family) → is_tried shape family
 unfolding shaping
 each-is-needed AtSign AtText h = record { text = codes "@5"; has_shape = refl; is_held = refl; is_needed = refl }
 each-is-needed AtSign RelativeText h = record { text = codes "@5 days ago"; has_shape = refl; is_held = refl; is_needed = refl }
-each-is-needed Rfc2822Day Rfc2822 h = record { text = codes "Thu, 18 Aug 2022 12:45:06 +0800"; has_shape = refl; is_held = refl; is_needed = refl }
+each-is-needed Rfc2822Day Rfc2822 h =
+    record { text = codes "Thu, 18 Aug 2022 12:45:06 +0800"; has_shape = refl; is_held = refl; is_needed = refl }
 each-is-needed Rfc2822Day RelativeText h = record { text = codes "two, days ago"; has_shape = refl; is_held = refl; is_needed = refl }
-each-is-needed NamedDay Gitoxide h = record { text = codes "Thu Aug 18 2022 12:45:06 +0800"; has_shape = refl; is_held = refl; is_needed = refl }
-each-is-needed NamedDay Default h = record { text = codes "Thu Aug 18 12:45:06 2022 +0800"; has_shape = refl; is_held = refl; is_needed = refl }
+each-is-needed NamedDay Gitoxide h =
+    record { text = codes "Thu Aug 18 2022 12:45:06 +0800"; has_shape = refl; is_held = refl; is_needed = refl }
+each-is-needed NamedDay Default h =
+    record { text = codes "Thu Aug 18 12:45:06 2022 +0800"; has_shape = refl; is_held = refl; is_needed = refl }
 each-is-needed NamedDay RelativeText h = record { text = codes "two days ago"; has_shape = refl; is_held = refl; is_needed = refl }
 each-is-needed Word RelativeText h = record { text = codes "last week"; has_shape = refl; is_held = refl; is_needed = refl }
 each-is-needed DashedDay Short h = record { text = codes "2018-1-2"; has_shape = refl; is_held = refl; is_needed = refl }
 each-is-needed DashedDay Iso8601 h = record { text = codes "2022-08-18 12:45:60 +0000"; has_shape = refl; is_held = refl; is_needed = refl }
-each-is-needed DashedDay Iso8601Strict h = record { text = codes "2022-08-18T12:45:60+00:00"; has_shape = refl; is_held = refl; is_needed = refl }
+each-is-needed DashedDay Iso8601Strict h =
+    record { text = codes "2022-08-18T12:45:60+00:00"; has_shape = refl; is_held = refl; is_needed = refl }
 each-is-needed DashedDay GitForm h = record { text = codes "2008-02-14 20:30:45 Z"; has_shape = refl; is_held = refl; is_needed = refl }
-each-is-needed DashedDay RelativeText h = record { text = codes "2018-12-24 5 days ago"; has_shape = refl; is_held = refl; is_needed = refl }
+each-is-needed DashedDay RelativeText h =
+    record { text = codes "2018-12-24 5 days ago"; has_shape = refl; is_held = refl; is_needed = refl }
 each-is-needed GitDay GitForm h = record { text = codes "2008.02.14 20:30:45 -0500"; has_shape = refl; is_held = refl; is_needed = refl }
 each-is-needed GitDay RelativeText h = record { text = codes "20080214T20 2 days ago"; has_shape = refl; is_held = refl; is_needed = refl }
 each-is-needed Count Rfc2822 h = record { text = codes "18 Aug 2022 12:45:06 +0800"; has_shape = refl; is_held = refl; is_needed = refl }

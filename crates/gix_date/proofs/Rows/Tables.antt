@@ -2,8 +2,8 @@
 use Rattle.std.proofs.Common.{◌≡◌, ℕ, ℤ, List, [], pos, Option, Some, is_some, filter, map}
 use Prim.Native.String.{String}
 use Rattle.std.specs.Prelude.{codes, neg_ℤ}
-use Rattle.gix_date.specs.declared.civil.ClockFields.{ClockFields}
-use Rattle.gix_date.specs.declared.civil.DateFields.{DateFields}
+use Rattle.gix_date.specs.declared.clock.ClockFields.{ClockFields}
+use Rattle.gix_date.specs.declared.clock.DateFields.{DateFields}
 use Rattle.gix_date.specs.declared.time.Time.{Time}
 
 -- each row is a text and what is read of it

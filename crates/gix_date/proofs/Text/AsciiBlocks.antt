@@ -1,5 +1,6 @@
 -- Blocks of bytes that are ASCII.
-use Rattle.std.proofs.Common.{◌≡◌, ◌∙◌, ℕ, ◌+◌, ◌-◌, ◌<◌, ◌≤◌, ◌%◌, ◌^◌, true, cond, leb, leb-false, eqb, eqb-true, List, map, length, take, drop, get_or, replicate, sym, ap, subst, inl, inr, arith, slice_range, IsAscii, w8}
+use Rattle.std.proofs.Common.{◌≡◌, ◌∙◌, ℕ, ◌+◌, ◌-◌, ◌<◌, ◌≤◌, ◌%◌, ◌^◌, true, cond, leb, leb-false, eqb, eqb-true, List, map, length, take}
+use Rattle.std.proofs.Common.{drop, get_or, replicate, sym, ap, subst, inl, inr, arith, slice_range, IsAscii, w8}
 use Rattle.std.proofs.lemmas.Bool.{cases_lt}
 use Rattle.std.proofs.lemmas.List.{get_or-take, get_or-drop, get_or_past, length-map, length-take-le}
 use Rattle.std.proofs.lemmas.Simd.{length-chunk, mask_l-mod, none_from_empty_mask, tops_compared, zip2_splat_left}
@@ -23,7 +24,8 @@ high-bits bytes n within small =
 pub block_is_ascii : (bytes : List ℕ) (n : ℕ) → n ≤ length bytes → n ≤ 64 → eqb (high_bits n bytes) 0 ≡ true → IsAscii (take n bytes)
 block_is_ascii bytes n within small none i = elim (cases_lt i n) [
   | inl l ↦ subst (λ b. b < 128) (sym (get_or-take n bytes i 0 l))
-      (leb-false 128 _ (none_from_empty_mask (leb 128) bytes 0 n 0 (omega arith) (sym (high-bits bytes n within small) ∙ eqb-true _ _ none) i (omega arith) (omega arith)))
+      (leb-false 128 _ (none_from_empty_mask (leb 128) bytes 0 n 0 (omega arith) (sym (high-bits bytes n within small) ∙ eqb-true _ _ none)
+      i (omega arith) (omega arith)))
   | inr g ↦ omega (arith, get_or_past (take n bytes) i 0 (omega (arith, length-take-le n bytes within)))
 ]
 
@@ -38,7 +40,8 @@ in-back bytes n i within reach after back = elim (cases_lt i (length bytes)) [
       let start = length bytes - n in
       let k = i - start in
       let at : start + k ≡ i = omega arith in
-      subst (λ b. b < 128) (get_or-take n (last_bytes n bytes) k 0 (omega arith) ∙ get_or-take (length bytes - start) (drop start bytes) k 0 (omega arith)
+      subst (λ b. b < 128)
+      (get_or-take n (last_bytes n bytes) k 0 (omega arith) ∙ get_or-take (length bytes - start) (drop start bytes) k 0 (omega arith)
       ∙ get_or-drop start bytes k 0 ∙ ap (λ j. get_or bytes j 0) at) (back k)
   | inr g ↦ omega (arith, get_or_past bytes i 0 g)
 ]

@@ -1,5 +1,6 @@
 -- Texts of ASCII, and where a text may be cut: after ASCII.
-use Rattle.std.proofs.Common.{◌≡◌, ℕ, ◌+◌, ◌-◌, ◌<◌, ◌≤◌, Bool, true, cond, List, [], ◌∷◌, length, get_or, Some, None, refl, arith, ap, subst, zero, suc, IsAscii, ◌++◌, ◌∙◌, length-append}
+use Rattle.std.proofs.Common.{◌≡◌, ℕ, ◌+◌, ◌-◌, ◌<◌, ◌≤◌, Bool, true, cond, List, [], ◌∷◌, length, get_or, Some, None, refl, arith, ap}
+use Rattle.std.proofs.Common.{subst, zero, suc, IsAscii, ◌++◌, ◌∙◌, length-append}
 use Rattle.std.proofs.lemmas.Bool.{and_parts as both, and_from}
 use Rattle.std.proofs.lemmas.Bool.Decides.{nat_tests}
 use Rattle.std.proofs.lemmas.List.Sums.{prefix_len-le-length, prefix_len_passes}
@@ -27,9 +28,11 @@ pub all-append : {X : Type 0} (p : X → Bool) (xs ys : List X) → list_all p x
 all-append p xs ys h k = list_all-append p xs ys ∙ and_from (list_all p xs) (list_all p ys) h k
 
 -- after a front of bytes that are ASCII
-pub cut_rest : (p : ℕ → Bool) → ((c : ℕ) → p c ≡ true → c < 128) → (bs : List ℕ) (n : ℕ) → IsUtf8 bs → n ≤ prefix_len p bs → IsCharBoundary bs n
+pub cut_rest : (p : ℕ → Bool) → ((c : ℕ) → p c ≡ true → c < 128) → (bs : List ℕ) (n : ℕ) → IsUtf8 bs → n ≤ prefix_len p bs
+    → IsCharBoundary bs n
 cut_rest p ascii bs zero u h = IsCharBoundary-start bs u
-cut_rest p ascii bs (suc n) u h = subst (IsCharBoundary bs) (omega arith) (IsCharBoundary-after_ascii bs n u (omega (arith, prefix_len-le-length p bs)) (ascii (get_or bs n 0) (prefix_len_passes p bs n 0 (omega arith))))
+cut_rest p ascii bs (suc n) u h = subst (IsCharBoundary bs) (omega arith) (IsCharBoundary-after_ascii bs n u
+    (omega (arith, prefix_len-le-length p bs)) (ascii (get_or bs n 0) (prefix_len_passes p bs n 0 (omega arith))))
 
 -- the digits, or the spaces, that a text begins with end where no character is cut
 pub digits_end : (text : List ℕ) → IsUtf8 text → IsCharBoundary text (prefix_len is_ascii_digit text)
@@ -70,13 +73,15 @@ cut_pair bytes text last m e u n value =
     IsCharBoundary-after_ascii text last u (omega (arith, ap length e)) (subst (λ bs. get_or bs last 0 < 128) e ascii)
 
 -- where the rest of a text begins
-pub rest_begins : (text rest : List ℕ) → (front : List ℕ) × (text ≡ front ++ rest) → IsUtf8 rest → IsCharBoundary text (length text - length rest)
+pub rest_begins : (text rest : List ℕ) → (front : List ℕ) × (text ≡ front ++ rest) → IsUtf8 rest
+    → IsCharBoundary text (length text - length rest)
 rest_begins text rest (front, whole) utf8 =
     let same : length front ≡ length text - length rest = omega (arith, ap length whole, length-append front rest) in
     subst (λ (n : ℕ). IsCharBoundary text n) same (IsCharBoundary-at_seam text front rest whole utf8)
 
 -- what stands after a byte of ASCII
-pub byte_end : (bytes text : List ℕ) (place : ℕ) → bytes ≡ text → IsUtf8 text → place < length bytes → get_or bytes place 0 ≡ 32 → IsCharBoundary text (place + 1)
+pub byte_end : (bytes text : List ℕ) (place : ℕ) → bytes ≡ text → IsUtf8 text → place < length bytes → get_or bytes place 0 ≡ 32
+    → IsCharBoundary text (place + 1)
 byte_end bytes text place e u within byte =
     let same : get_or text place 0 ≡ 32 = subst (λ (bs : List ℕ). get_or bs place 0 ≡ 32) e byte in
     IsCharBoundary-after_ascii text place u (omega (arith, ap length e, within)) (omega (arith, same))

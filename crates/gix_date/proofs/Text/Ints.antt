@@ -1,5 +1,6 @@
 -- What `parse` of an i64 gives, as a function of the text.
-use Rattle.std.proofs.Common.{◌≡◌, ℕ, Bool, true, false, cond, List, refl, sym, ap, ◌∙◌, arith, ℤ, pos, negsuc, Result, Ok, Err, Some, None, FitsSigned, w64}
+use Rattle.std.proofs.Common.{◌≡◌, ℕ, Bool, true, false, cond, List, refl, sym, ap, ◌∙◌, arith, ℤ, pos, negsuc, Result, Ok, Err, Some, None}
+use Rattle.std.proofs.Common.{FitsSigned, w64}
 use Rattle.std.proofs.lemmas.Bool.Decides.{nat_tests}
 use Rattle.std.proofs.lemmas.Str.Parse.{IsNumeralModel, numerals_by_value, tells_all_ascii_digits}
 use Rattle.std.specs.Prelude.{◌&&◌}
@@ -51,6 +52,7 @@ int_value_lem w (Ok z) h = ap Some h.1 ∙ sym (ap (λ (b : Bool). cond b (Some 
 int_value_lem w (Err e) h = grind (arith, false_from_ne_true, from_holds)
 
 -- an int text of this value
-pub int_value_from : (w : List ℕ) (z : ℤ) → IsNumeral 10 (without_leading_sign w) → signed_digits_value 10 w ≡ z → FitsSigned w64 z → int_value w ≡ Some z
+pub int_value_from : (w : List ℕ) (z : ℤ) → IsNumeral 10 (without_leading_sign w) → signed_digits_value 10 w ≡ z → FitsSigned w64 z
+    → int_value w ≡ Some z
 unfolding ReadsInt
 int_value_from w z n e f = sym (int_value_lem {E = ℕ} w (Ok z) ((n, rw e f), sym e))

@@ -1,9 +1,11 @@
 -- A text that begins and ends with a visible character has no white space round it.
 use Rattle.std.proofs.lemmas.Grind.{common_steps}
-use Rattle.std.proofs.Common.{◌≡◌, ◌∙◌, ℕ, ◌-◌, ◌<◌, Bool, true, false, cond, List, [], ◌∷◌, ◌++◌, length, get_or, take, refl, ap, sym, arith, encode_utf8_all, IsUtf8}
+use Rattle.std.proofs.Common.{◌≡◌, ◌∙◌, ℕ, ◌-◌, ◌<◌, Bool, true, false, cond, List, [], ◌∷◌, ◌++◌, length, get_or, take, refl, ap, sym}
+use Rattle.std.proofs.Common.{arith, encode_utf8_all, IsUtf8}
 use Rattle.std.proofs.lemmas.Bool.Decides.{nat_tests}
 use Rattle.std.proofs.lemmas.List.Prefix.{end_from_reads}
-use Rattle.std.proofs.lemmas.Str.{chars_past_char, chars-append, chars-IsAscii, encodes-chars, encode_ascii, IsUtf8-take, IsCharBoundary-before_ascii}
+use Rattle.std.proofs.lemmas.Str.{chars_past_char, chars-append, chars-IsAscii, encodes-chars, encode_ascii, IsUtf8-take}
+use Rattle.std.proofs.lemmas.Str.{IsCharBoundary-before_ascii}
 use Rattle.std.proofs.lemmas.Str.Ascii.{IsAscii-nil, IsAscii-cons}
 use Rattle.std.specs.Char.{is_ascii_graphic, is_whitespace}
 use Rattle.std.specs.Prelude.{◌==◌, ◌&&◌}
@@ -36,7 +38,8 @@ by-last : (t : List ℕ) → 0 < length t → t ≡ take (length t - 1) t ++ get
 by-last t some = grind (arith, nat_tests, common_steps, end_from_reads)
 
 -- the characters that stay at the end
-ends : (t : List ℕ) → IsUtf8 t → 0 < length t → is_ascii_graphic (get_or t (length t - 1) 0) ≡ true → drop_trailing_whitespace (chars t) ≡ chars t
+ends : (t : List ℕ) → IsUtf8 t → 0 < length t → is_ascii_graphic (get_or t (length t - 1) 0) ≡ true
+    → drop_trailing_whitespace (chars t) ≡ chars t
 ends t u some h =
     let n = length t - 1 in
     let last = get_or t n 0 in
@@ -48,13 +51,16 @@ ends t u some h =
     ∙ ap (λ (cs : List ℕ). chars (take n t) ++ cs) (chars-IsAscii (last ∷ []) one) in
     ap drop_trailing_whitespace split ∙ drops-none (chars (take n t)) last (graphic-stays last h) ∙ sym split
 
-pub trim_ends : (t : List ℕ) → IsUtf8 t → 0 < length t → is_ascii_graphic (get_or t 0 0) ≡ true → is_ascii_graphic (get_or t (length t - 1) 0) ≡ true → trim t ≡ t
+pub trim_ends : (t : List ℕ) → IsUtf8 t → 0 < length t → is_ascii_graphic (get_or t 0 0) ≡ true
+    → is_ascii_graphic (get_or t (length t - 1) 0) ≡ true → trim t ≡ t
 unfolding trim_start trim_end
 trim_ends [] u some first last = absurd (omega arith)
 trim_ends (c ∷ rest) u some first last =
     let t = c ∷ rest in
-    let cs : chars t ≡ c ∷ chars rest = chars_past_char t rest c u (ap (λ (bs : List ℕ). bs ++ rest) (sym (encode_ascii c (graphic-ascii c first)))) in
-    let skipped : skip_leading_whitespace (chars t) ≡ chars t = ap skip_leading_whitespace cs ∙ skips-none c (chars rest) (graphic-stays c first) ∙ sym cs in
+    let cs : chars t ≡ c ∷ chars rest =
+    chars_past_char t rest c u (ap (λ (bs : List ℕ). bs ++ rest) (sym (encode_ascii c (graphic-ascii c first)))) in
+    let skipped : skip_leading_whitespace (chars t) ≡ chars t = ap skip_leading_whitespace cs
+    ∙ skips-none c (chars rest) (graphic-stays c first) ∙ sym cs in
     let front : encode_utf8_all (skip_leading_whitespace (chars t)) ≡ t = ap encode_utf8_all skipped ∙ encodes-chars t u in
     ap (λ (x : List ℕ). encode_utf8_all (drop_trailing_whitespace (chars x))) front
     ∙ ap encode_utf8_all (ends t u some last) ∙ encodes-chars t u

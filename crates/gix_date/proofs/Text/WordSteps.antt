@@ -1,5 +1,6 @@
 -- What a step of `split_whitespace` says of the words of a text.
-use Rattle.std.proofs.Common.{◌≡◌, ℕ, ◌<◌, true, List, [], ◌∷◌, ◌++◌, length, map, refl, sym, ap, ◌∙◌, subst, append_assoc, append-nil, arith, rules, length-append}
+use Rattle.std.proofs.Common.{◌≡◌, ℕ, ◌<◌, true, List, [], ◌∷◌, ◌++◌, length, map, refl, sym, ap, ◌∙◌, subst, append_assoc, append-nil}
+use Rattle.std.proofs.Common.{arith, rules, length-append}
 use Rattle.std.proofs.lemmas.Bool.{not-false as from_not}
 use Rattle.std.proofs.lemmas.List.Splits.{slice_split-cons_yes, slice_split-cons_no}
 use Rattle.std.proofs.lemmas.Str.{chars-encodes, cons_from_encodes, encodes_same, len_utf8_bounds, length-encode}
@@ -16,10 +17,12 @@ use Rattle.gix_date.specs.Text.SpaceWords.{is_nonempty, runs, space_words}
 -- white space in front makes no run
 pub runs_skip : (gs cs : List ℕ) → NonePass is_not_whitespace gs → runs (gs ++ cs) ≡ runs cs
 runs_skip [] cs h = refl
-runs_skip (g ∷ gs) cs h = ap (filter is_nonempty) (slice_split-cons_yes is_whitespace g (gs ++ cs) (from_not (is_whitespace g) h.0)) ∙ runs_skip gs cs h.1
+runs_skip (g ∷ gs) cs h = ap (filter is_nonempty) (slice_split-cons_yes is_whitespace g (gs ++ cs) (from_not (is_whitespace g) h.0))
+    ∙ runs_skip gs cs h.1
 
 -- the first part ends where the second text begins, if that is empty or begins with white space
-first_part : (xs es : List ℕ) (tail : List (List ℕ)) → NonePass is_whitespace xs → slice_split is_whitespace es ≡ [] ∷ tail → slice_split is_whitespace (xs ++ es) ≡ xs ∷ tail
+first_part : (xs es : List ℕ) (tail : List (List ℕ)) → NonePass is_whitespace xs → slice_split is_whitespace es ≡ [] ∷ tail
+    → slice_split is_whitespace (xs ++ es) ≡ xs ∷ tail
 first_part [] es tail h e = e
 first_part (x ∷ xs) es tail h e = slice_split-cons_no is_whitespace x (xs ++ es) h.0 ∙ ap (onto_first x) (first_part xs es tail h.1 e)
 
@@ -32,7 +35,8 @@ pub run_first : (x : ℕ) (xs es : List ℕ) → NonePass is_whitespace (x ∷ x
 run_first x xs _ h ends = ap (filter is_nonempty) (first_part (x ∷ xs) [] [] h refl)
 run_first x xs _ h (stops c cs w) =
     let parts = slice_split-cons_yes is_whitespace c cs w in
-    ap (filter is_nonempty) (first_part (x ∷ xs) (c ∷ cs) (slice_split is_whitespace cs) h parts) ∙ ap (λ rs. (x ∷ xs) ∷ filter is_nonempty rs) (sym parts)
+    ap (filter is_nonempty) (first_part (x ∷ xs) (c ∷ cs) (slice_split is_whitespace cs) h parts)
+    ∙ ap (λ rs. (x ∷ xs) ∷ filter is_nonempty rs) (sym parts)
 
 -- the characters after a front
 strip : (us cs t : List ℕ) → encode_utf8_all cs ≡ encode_utf8_all us ++ t → (es : List ℕ) × (cs ≡ us ++ es) × (encode_utf8_all es ≡ t)
@@ -56,12 +60,14 @@ stops_at (e ∷ es) more h =
     stops e es (ap is_whitespace same ∙ found.1)
 
 -- the words of a text whose characters are white space, a word, and what stops it
-words_of : (gs es : List ℕ) (x : List ℕ) → 0 < length (encode_utf8_all x) → NonePass is_not_whitespace gs → NonePass is_whitespace x → StopsRun es → map encode_utf8_all (runs (gs ++ (x ++ es))) ≡ encode_utf8_all x ∷ map encode_utf8_all (runs es)
+words_of : (gs es : List ℕ) (x : List ℕ) → 0 < length (encode_utf8_all x) → NonePass is_not_whitespace gs → NonePass is_whitespace x
+    → StopsRun es → map encode_utf8_all (runs (gs ++ (x ++ es))) ≡ encode_utf8_all x ∷ map encode_utf8_all (runs es)
 words_of gs es [] long g h stop = absurd (omega arith)
 words_of gs es (x ∷ xs) long g h stop = ap (map encode_utf8_all) (runs_skip gs ((x ∷ xs) ++ es) g ∙ run_first x xs es h stop)
 
 -- a word comes off the front
-pub word_comes : (s x t gap more : List ℕ) → IsUtf8 s → s ≡ gap ++ (x ++ t) → 0 < length x → NoCharPasses is_not_whitespace gap → NoCharPasses is_whitespace x → EmptyOrStartsWithPassing is_whitespace t more → (space_words s ≡ x ∷ space_words t) × IsUtf8 t
+pub word_comes : (s x t gap more : List ℕ) → IsUtf8 s → s ≡ gap ++ (x ++ t) → 0 < length x → NoCharPasses is_not_whitespace gap
+    → NoCharPasses is_whitespace x → EmptyOrStartsWithPassing is_whitespace t more → (space_words s ≡ x ∷ space_words t) × IsUtf8 t
 unfolding space_words
 word_comes s x t gap more u e long gs xs stop =
     let cs = u.0 in
@@ -91,7 +97,9 @@ no_word s u gs =
     ap (λ cs. map encode_utf8_all (runs cs)) (read ∙ sym (append-nil gs.0)) ∙ ap (map encode_utf8_all) (runs_skip gs.0 [] gs.2)
 
 -- what one step says
-pub step : (s : SplitWhitespace) (r : Option (Bor (List ℕ))) (t : SplitWhitespace) → IsUtf8 (split_whitespace_rest s) → split_whitespace_steps s r t
-    → MatchOption r (space_words (split_whitespace_rest s) ≡ []) (λ x. (space_words (split_whitespace_rest s) ≡ x.now ∷ space_words (split_whitespace_rest t)) × IsUtf8 (split_whitespace_rest t))
+pub step : (s : SplitWhitespace) (r : Option (Bor (List ℕ))) (t : SplitWhitespace) → IsUtf8 (split_whitespace_rest s)
+    → split_whitespace_steps s r t
+    → MatchOption r (space_words (split_whitespace_rest s) ≡ [])
+    (λ x. (space_words (split_whitespace_rest s) ≡ x.now ∷ space_words (split_whitespace_rest t)) × IsUtf8 (split_whitespace_rest t))
 step s None t u h = no_word (split_whitespace_rest s) u h.1
 step s (Some x) t u h = word_comes (split_whitespace_rest s) x.now (split_whitespace_rest t) h.0 h.5.0 u h.1 h.2 h.3 h.4 h.5.1

@@ -1,5 +1,6 @@
 -- The relative words of a text are those of its space words, and what the first of these begins with.
-use Rattle.std.proofs.Common.{◌≡◌, ◌∙◌, ◌<◌, ◌≤◌, ℕ, Bool, true, false, List, [], ◌∷◌, ◌++◌, map, filter, length, get_or, refl, ap, ap₂, sym, arith, append_assoc, append-nil, suc, flat_map, encode_utf8, encode_utf8_all, IsUtf8, inl, inr}
+use Rattle.std.proofs.Common.{◌≡◌, ◌∙◌, ◌<◌, ◌≤◌, ℕ, Bool, true, false, List, [], ◌∷◌, ◌++◌, map, filter, length, get_or, refl, ap, ap₂}
+use Rattle.std.proofs.Common.{sym, arith, append_assoc, append-nil, suc, flat_map, encode_utf8, encode_utf8_all, IsUtf8, inl, inr}
 use Rattle.std.proofs.lemmas.Bool.Decides.{nat_tests}
 use Rattle.std.proofs.lemmas.Bool.{cases_lt}
 use Rattle.std.proofs.lemmas.List.Elements.{filter-append}
@@ -26,10 +27,13 @@ pub parts-of : (p : ℕ → Bool) (x : List ℕ) → Parts p x
 parts-of p [] = record { part = []; parts = []; is = refl }
 parts-of p (c ∷ x) = parts-by p c x (p c) refl (parts-of p x)
 
-pub onto-append : (c : ℕ) (xs ys : List (List ℕ)) (part : List ℕ) (parts : List (List ℕ)) → xs ≡ part ∷ parts → onto_first c (xs ++ ys) ≡ onto_first c xs ++ ys
+pub onto-append : (c : ℕ) (xs ys : List (List ℕ)) (part : List ℕ) (parts : List (List ℕ)) → xs ≡ part ∷ parts
+    → onto_first c (xs ++ ys) ≡ onto_first c xs ++ ys
 onto-append c xs ys part parts e = rw e refl
 
-cut-by : (p : ℕ → Bool) (c : ℕ) (x : List ℕ) (g : ℕ) (y : List ℕ) (b : Bool) → p c ≡ b → slice_split p (x ++ (g ∷ y)) ≡ slice_split p x ++ slice_split p y → slice_split p (c ∷ (x ++ (g ∷ y))) ≡ slice_split p (c ∷ x) ++ slice_split p y
+cut-by : (p : ℕ → Bool) (c : ℕ) (x : List ℕ) (g : ℕ) (y : List ℕ) (b : Bool) → p c ≡ b
+    → slice_split p (x ++ (g ∷ y)) ≡ slice_split p x ++ slice_split p y
+    → slice_split p (c ∷ (x ++ (g ∷ y))) ≡ slice_split p (c ∷ x) ++ slice_split p y
 cut-by p c x g y true e h = grind (arith, slice_split-cons_yes)
 cut-by p c x g y false e h =
     let parts = parts-of p x in
@@ -38,7 +42,8 @@ cut-by p c x g y false e h =
     ∙ onto-append c (slice_split p x) (slice_split p y) parts.part parts.parts parts.is
     ∙ sym (ap (λ (ps : List (List ℕ)). ps ++ slice_split p y) (slice_split-cons_no p c x e))
 
-cut-append : (p : ℕ → Bool) (x : List ℕ) (g : ℕ) (y : List ℕ) → p g ≡ true → slice_split p (x ++ (g ∷ y)) ≡ slice_split p x ++ slice_split p y
+cut-append : (p : ℕ → Bool) (x : List ℕ) (g : ℕ) (y : List ℕ) → p g ≡ true
+    → slice_split p (x ++ (g ∷ y)) ≡ slice_split p x ++ slice_split p y
 cut-append p [] g y h = slice_split-cons_yes p g y h
 cut-append p (c ∷ x) g y h = cut-by p c x g y (p c) refl (cut-append p x g y h)
 
@@ -67,7 +72,8 @@ gaps-from (x ∷ xs) h = (h 0 (omega arith), gaps-from xs (λ k l. h (suc k) (om
 white-gap : (c : ℕ) → c < 128 → is_whitespace c ≡ true → is_gap c ≡ true
 white-gap c l h = grind (arith, nat_tests, h)
 
-byte-gap : (c k : ℕ) → is_whitespace c ≡ true → k < length (encode_utf8 c) → (get_or (encode_utf8 c) k 0 < 128) ⊎ (128 ≤ get_or (encode_utf8 c) k 0) → is_gap (get_or (encode_utf8 c) k 0) ≡ true
+byte-gap : (c k : ℕ) → is_whitespace c ≡ true → k < length (encode_utf8 c)
+    → (get_or (encode_utf8 c) k 0 < 128) ⊎ (128 ≤ get_or (encode_utf8 c) k 0) → is_gap (get_or (encode_utf8 c) k 0) ≡ true
 byte-gap c k w l (inl small) =
     let same : c ≡ get_or (encode_utf8 c) k 0 = inside_one c [] (encode_utf8 c) k (sym (append-nil (encode_utf8 c))) l small in
     ap is_gap (sym same) ∙ white-gap c (omega (arith, same, small)) w
@@ -87,18 +93,21 @@ words_of_parts x (part ∷ parts) = relative_words (x ++ encode_utf8_all part) +
 no-front : (ps : List (List ℕ)) (part : List ℕ) (parts : List (List ℕ)) → ps ≡ part ∷ parts → words_of_parts [] ps ≡ flat_map part_words ps
 no-front ps part parts e = rw e refl
 
-words-by : (x : List ℕ) (c : ℕ) (cs : List ℕ) (b : Bool) → is_whitespace c ≡ b → ((x : List ℕ) → relative_words (x ++ encode_utf8_all cs) ≡ words_of_parts x (slice_split is_whitespace cs))
+words-by : (x : List ℕ) (c : ℕ) (cs : List ℕ) (b : Bool) → is_whitespace c ≡ b
+    → ((x : List ℕ) → relative_words (x ++ encode_utf8_all cs) ≡ words_of_parts x (slice_split is_whitespace cs))
     → relative_words (x ++ (encode_utf8 c ++ encode_utf8_all cs)) ≡ words_of_parts x (slice_split is_whitespace (c ∷ cs))
 words-by x c cs true e more =
     let parts = parts-of is_whitespace cs in
     gap-between x (encode_utf8 c) (encode_utf8_all cs) (white-gaps c e) (omega (arith, length-encode c, len_utf8_bounds c))
-    ∙ ap₂ (λ (a b : List (List ℕ)). a ++ b) (ap relative_words (sym (append-nil x))) (more [] ∙ no-front (slice_split is_whitespace cs) parts.part parts.parts parts.is)
+    ∙ ap₂ (λ (a b : List (List ℕ)). a ++ b) (ap relative_words (sym (append-nil x)))
+    (more [] ∙ no-front (slice_split is_whitespace cs) parts.part parts.parts parts.is)
     ∙ sym (ap (words_of_parts x) (slice_split-cons_yes is_whitespace c cs e))
 words-by x c cs false e more =
     let parts = parts-of is_whitespace cs in
     ap relative_words (sym (append_assoc x (encode_utf8 c) (encode_utf8_all cs)))
     ∙ more (x ++ encode_utf8 c)
-    ∙ (rw parts.is (ap (λ (t : List ℕ). relative_words t ++ flat_map part_words parts.parts) (append_assoc x (encode_utf8 c) (encode_utf8_all parts.part))))
+    ∙ (rw parts.is (ap (λ (t : List ℕ). relative_words t ++ flat_map part_words parts.parts)
+    (append_assoc x (encode_utf8 c) (encode_utf8_all parts.part))))
     ∙ sym (ap (words_of_parts x) (slice_split-cons_no is_whitespace c cs e))
 
 words-from : (x cs : List ℕ) → relative_words (x ++ encode_utf8_all cs) ≡ words_of_parts x (slice_split is_whitespace cs)

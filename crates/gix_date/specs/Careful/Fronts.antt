@@ -1,10 +1,12 @@
 -- Where a text that is not careful stops being so: at the end of the longest front that some form has.
-use Rattle.std.specs.Prelude.{ℕ, ◌-◌, List, [], ◌∷◌, length, drop, ℤ, nat_lt, if◌then◌else◌, Option, Some, None, is_some, option_map, unwrap_or, ◌≡◌, ◌++◌}
+use Rattle.std.specs.Prelude.{ℕ, ◌-◌, List, [], ◌∷◌, length, drop, ℤ, nat_lt, if◌then◌else◌, Option, Some, None, is_some, option_map}
+use Rattle.std.specs.Prelude.{unwrap_or, ◌≡◌, ◌++◌}
 use Rattle.std.specs.Char.{is_ascii_digit}
 use Rattle.std.specs.List.{prefix_len}
 use Rattle.std.specs.Option.{option_or}
 use Rattle.gix_date.specs.Fields.Civil.{is_date, is_clock}
-use Rattle.gix_date.specs.Fields.DateFields.{skip_spaces, skip_weekday, skip_day_name, read_month, read_plain_date, read_clock, read_rfc2822_clock}
+use Rattle.gix_date.specs.Fields.DateFields.{skip_spaces, skip_weekday, skip_day_name, read_month, read_plain_date, read_clock}
+use Rattle.gix_date.specs.Fields.DateFields.{read_rfc2822_clock}
 use Rattle.gix_date.specs.Fields.DateOffsets.{compact_offset, strict_offset, rfc2822_zone}
 use Rattle.gix_date.specs.Text.Front.{ReadFront, skip_char, ◌>>=◌}
 use Rattle.gix_date.specs.Git.Forms.{git_front, git_offset}

@@ -1,10 +1,12 @@
 -- What a text says to a caller that must not guess, by its options, and what a call results in.
-use Rattle.std.specs.Prelude.{◌≡◌, ◌&&◌, ◌||◌, ℕ, Bool, true, false, IsCharBoundary, List, Option, Some, None, is_none, Result, Ok, Err, not, take, IfSome, option_map}
+use Rattle.std.specs.Prelude.{◌≡◌, ◌&&◌, ◌||◌, ℕ, Bool, true, false, IsCharBoundary, List, Option, Some, None, is_none, Result, Ok, Err}
+use Rattle.std.specs.Prelude.{not, take, IfSome, option_map}
 use Rattle.std.specs.Char.{is_ascii_alphanumeric}
 use Rattle.std.specs.List.{list_any}
 use Rattle.std.specs.Result.{result_map_both}
 use Rattle.jiff.specs.declared.zoned.Zoned.{Zoned}
-use Rattle.gix_date.specs.Careful.Dates.{is_in_years_if_number, is_large_if_number, is_whole_git, names_its_day, unzoned_day, unzoned_git_time, unzoned_time, IsLocalTime}
+use Rattle.gix_date.specs.Careful.Dates.{is_in_years_if_number, is_large_if_number, is_whole_git, names_its_day, unzoned_day}
+use Rattle.gix_date.specs.Careful.Dates.{unzoned_git_time, unzoned_time, IsLocalTime}
 use Rattle.gix_date.specs.Careful.Fronts.{longest_front}
 use Rattle.gix_date.specs.Careful.Texts.{unclear_place}
 use Rattle.gix_date.specs.Families.Answer.{FamilyAnswer, Absolute, NoInstant, OffsetAboveDay, Relative, answer_of, HasJiffOffset}

@@ -1,5 +1,6 @@
 -- Which relative texts leave nothing to guess.
-use Rattle.std.specs.Prelude.{ℕ, Bool, false, not, ◌&&◌, ◌||◌, List, length, take, drop, slice_index, ◌==◌, codes, if◌then◌else◌, Option, Some, None, option_map, zero, suc, ◌<◌}
+use Rattle.std.specs.Prelude.{ℕ, Bool, false, not, ◌&&◌, ◌||◌, List, length, take, drop, slice_index, ◌==◌, codes, if◌then◌else◌, Option}
+use Rattle.std.specs.Prelude.{Some, None, option_map, zero, suc, ◌<◌}
 use Rattle.std.specs.Char.{is_ascii_alphanumeric, is_ascii_whitespace}
 use Rattle.std.specs.List.{prefix_len}
 use Rattle.std.specs.Option.{option_or}

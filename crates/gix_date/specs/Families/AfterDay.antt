@@ -8,7 +8,7 @@ use Rattle.gix_date.specs.Fields.DateFields.{skip_spaces, skip_weekday, read_mon
 use Rattle.gix_date.specs.Text.Front.{ReadFront, ◌>>=◌}
 use Rattle.gix_date.specs.Fields.Layout.{LocalTime, Piece, nothing_read, read_pieces}
 use Rattle.gix_date.specs.Text.Numbers.{read_field}
-use Rattle.gix_date.specs.declared.civil.DateFields.{DateFields}
+use Rattle.gix_date.specs.declared.clock.DateFields.{DateFields}
 
 -- the first answer of a day alone, ISO 8601 and its strict form
 abbrev pub dashed_answer : List ℕ → Option FamilyAnswer

@@ -3,7 +3,8 @@ use Rattle.std.specs.Prelude.{◌≡◌, ◌≢◌, ℕ, Bool, true, false, List
 use Rattle.jiff.specs.declared.zoned.Zoned.{Zoned}
 use Rattle.gix_date.specs.Families.Answer.{FamilyAnswer, Relative}
 use Rattle.gix_date.specs.Families.Epoch.{epoch_time}
-use Rattle.gix_date.specs.Families.Order.{Family, Iso8601, Iso8601Strict, GitForm, RelativeText, family_answer, first_family_by, ParseNoAllocOutcome}
+use Rattle.gix_date.specs.Families.Order.{Family, Iso8601, Iso8601Strict, GitForm, RelativeText, family_answer, first_family_by}
+use Rattle.gix_date.specs.Families.Order.{ParseNoAllocOutcome}
 use Rattle.gix_date.specs.Git.Forms.{git_time}
 use Rattle.gix_date.specs.Families.Raw.{OffsetRule, raw_time_by}
 use Rattle.gix_date.specs.Relative.Dates.{RelativeDate, relative_date}

@@ -9,8 +9,8 @@ use Rattle.gix_date.specs.Fields.FieldTexts.{IsDigit, IsField, IsYear, IsPlainDa
 use Rattle.gix_date.specs.Fields.Offsets.{offset_of}
 use Rattle.gix_date.specs.Text.Characters.{colon}
 use Rattle.gix_date.specs.Text.Numbers.{two_digit_value}
-use Rattle.gix_date.specs.declared.civil.ClockFields.{ClockFields}
-use Rattle.gix_date.specs.declared.civil.DateFields.{DateFields}
+use Rattle.gix_date.specs.declared.clock.ClockFields.{ClockFields}
+use Rattle.gix_date.specs.declared.clock.DateFields.{DateFields}
 use Rattle.gix_date.specs.declared.parsing.offset.Sign.{Sign}
 use Rattle.gix_date.specs.declared.time.Time.{Time}
 

@@ -5,8 +5,8 @@ use Rattle.gix_date.specs.Fields.ClockNumbers.{max_hour, max_minute, max_second,
 use Rattle.gix_date.specs.Text.Front.{ReadFront, ◌>>=◌}
 use Rattle.gix_date.specs.Text.Numbers.{read_year}
 use Rattle.gix_date.specs.Fields.Zoned.{is_instant}
-use Rattle.gix_date.specs.declared.civil.DateFields.{DateFields}
-use Rattle.gix_date.specs.declared.civil.ClockFields.{ClockFields}
+use Rattle.gix_date.specs.declared.clock.DateFields.{DateFields}
+use Rattle.gix_date.specs.declared.clock.ClockFields.{ClockFields}
 
 -- a year of four digits, a month and a day at the front, the last two as `field` reads them and each after what `gap`
 -- takes

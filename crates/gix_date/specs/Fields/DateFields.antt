@@ -9,8 +9,8 @@ use Rattle.gix_date.specs.Fields.Civil.{read_date}
 use Rattle.gix_date.specs.Text.Front.{ReadFront, skip_char, ◌>>=◌}
 use Rattle.gix_date.specs.Text.Numbers.{read_two_digits, read_field}
 use Rattle.gix_date.specs.Text.Names.{is_name, day_names, month_names}
-use Rattle.gix_date.specs.declared.civil.ClockFields.{ClockFields}
-use Rattle.gix_date.specs.declared.civil.DateFields.{DateFields}
+use Rattle.gix_date.specs.declared.clock.ClockFields.{ClockFields}
+use Rattle.gix_date.specs.declared.clock.DateFields.{DateFields}
 
 -- what stands after one space or more
 unfoldable pub skip_spaces : List ℕ → Option (List ℕ)

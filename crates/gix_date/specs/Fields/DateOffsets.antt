@@ -1,5 +1,6 @@
 -- The offsets of formatted dates: what a whole text says by its digits, or in RFC 2822 by the name of a zone.
-use Rattle.std.specs.Prelude.{ℕ, Bool, ◌&&◌, List, [], ◌∷◌, ◌++◌, ℤ, pos, neg_ℤ, unsigned_abs, ◌==◌, nat_le, codes, if◌then◌else◌, Option, Some, None, is_some, option_map, unwrap_or}
+use Rattle.std.specs.Prelude.{ℕ, Bool, ◌&&◌, List, [], ◌∷◌, ◌++◌, ℤ, pos, neg_ℤ, unsigned_abs, ◌==◌, nat_le, codes, if◌then◌else◌, Option}
+use Rattle.std.specs.Prelude.{Some, None, is_some, option_map, unwrap_or}
 use Rattle.std.specs.Option.{option_or}
 use Rattle.gix_date.specs.Fields.ClockNumbers.{max_minute, max_second, hours_in, minutes_in}
 use Rattle.gix_date.specs.Text.Characters.{colon}

@@ -1,5 +1,6 @@
 -- The fields of an offset from UTC: a sign, and pairs of digits.
-use Rattle.std.specs.Prelude.{ℕ, ◌+◌, ◌*◌, Bool, List, [], ◌∷◌, ℤ, pos, neg_ℤ, if◌then◌else◌, Option, Some, None, option_map, unwrap_or, ◌++◌, int_lt, unsigned_abs}
+use Rattle.std.specs.Prelude.{ℕ, ◌+◌, ◌*◌, Bool, List, [], ◌∷◌, ℤ, pos, neg_ℤ, if◌then◌else◌, Option, Some, None, option_map, unwrap_or}
+use Rattle.std.specs.Prelude.{◌++◌, int_lt, unsigned_abs}
 use Rattle.std.specs.Option.{option_or}
 use Rattle.gix_date.specs.Fields.ClockNumbers.{seconds_per_minute, seconds_per_hour, hours_in, minutes_in}
 use Rattle.gix_date.specs.Text.Characters.{plus, minus}

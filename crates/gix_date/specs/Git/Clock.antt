@@ -9,7 +9,7 @@ use Rattle.gix_date.specs.Text.Characters.{is_colon, is_dot, has_colon}
 use Rattle.gix_date.specs.Text.Front.{ReadFront, ◌>>=◌}
 use Rattle.gix_date.specs.Text.Numbers.{read_two_digits}
 use Rattle.gix_date.specs.Text.SpaceWords.{is_nonempty}
-use Rattle.gix_date.specs.declared.civil.ClockFields.{ClockFields}
+use Rattle.gix_date.specs.declared.clock.ClockFields.{ClockFields}
 
 abbrev pub at_most : ℕ → ℕ → Option ℕ
 at_most most n = if nat_lt most n then None else Some n

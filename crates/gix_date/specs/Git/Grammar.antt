@@ -10,8 +10,8 @@ use Rattle.gix_date.specs.Fields.Offsets.{offset_of}
 use Rattle.gix_date.specs.Git.Cuts.{IsCut}
 use Rattle.gix_date.specs.Git.Forms.{without_colons}
 use Rattle.gix_date.specs.Text.Characters.{space, dot, minus, letter_t, letter_z, is_colon, is_dot, has_colon}
-use Rattle.gix_date.specs.declared.civil.ClockFields.{ClockFields}
-use Rattle.gix_date.specs.declared.civil.DateFields.{DateFields}
+use Rattle.gix_date.specs.declared.clock.ClockFields.{ClockFields}
+use Rattle.gix_date.specs.declared.clock.DateFields.{DateFields}
 use Rattle.gix_date.specs.declared.parsing.offset.OffsetFields.{OffsetFields}
 use Rattle.gix_date.specs.declared.time.Time.{Time}
 

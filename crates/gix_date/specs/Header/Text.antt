@@ -1,5 +1,6 @@
 -- The text of a time in a commit header.
-use Rattle.std.specs.Prelude.{◌≡◌, ℕ, List, [], ◌∷◌, ◌++◌, Bool, false, nat_lt, unsigned_abs, if◌then◌else◌, Option, Some, None, IsSomeAnd, Result, Ok, Err}
+use Rattle.std.specs.Prelude.{◌≡◌, ℕ, List, [], ◌∷◌, ◌++◌, Bool, false, nat_lt, unsigned_abs, if◌then◌else◌, Option, Some, None, IsSomeAnd}
+use Rattle.std.specs.Prelude.{Result, Ok, Err}
 use Rattle.std.specs.Borrow.{Bor}
 use Rattle.std.specs.Option.{option_map_or}
 use Rattle.std.specs.Str.{bytes_eq}

@@ -2,7 +2,8 @@
 use Rattle.std.specs.Prelude.{ℕ, List, [], ◌∷◌, codes, Option, option_map, slice_get}
 use Rattle.std.specs.Borrow.{Bor}
 use Rattle.gix_date.specs.Text.Names.{value_named}
-use Rattle.gix_date.specs.Printing.NamedTexts.{short_pattern, rfc2822_pattern, git_rfc2822_pattern, iso8601_pattern, iso8601_strict_pattern, gitoxide_pattern, default_pattern}
+use Rattle.gix_date.specs.Printing.NamedTexts.{short_pattern, rfc2822_pattern, git_rfc2822_pattern, iso8601_pattern, iso8601_strict_pattern}
+use Rattle.gix_date.specs.Printing.NamedTexts.{gitoxide_pattern, default_pattern}
 use Rattle.gix_date.specs.declared.time.format.Format.{Format}
 use Rattle.gix_date.specs.declared.time.format.Format.TheVariants.{Custom, Unix, Raw}
 

@@ -7,7 +7,8 @@ use Rattle.jiff_strtime.specs.Show.{Shown}
 use Rattle.gix_date.specs.Fields.ClockNumbers.{seconds_per_minute}
 use Rattle.gix_date.specs.Fields.Layout.{LocalTime, Piece, DayName, MonthName, Day, Year, Clock, Spaces, print_pieces}
 use Rattle.gix_date.specs.Text.Numbers.{two_digits}
-use Rattle.gix_date.specs.Families.Patterns.{short_layout, rfc2822_layout, iso8601_layout, iso8601_strict_layout, gitoxide_layout, default_layout}
+use Rattle.gix_date.specs.Families.Patterns.{short_layout, rfc2822_layout, iso8601_layout, iso8601_strict_layout, gitoxide_layout}
+use Rattle.gix_date.specs.Families.Patterns.{default_layout}
 use Rattle.gix_date.specs.Printing.Formats.{IsShown, IsUnprinted}
 
 -- what a zoned value's clock shows

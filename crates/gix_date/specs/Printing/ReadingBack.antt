@@ -1,5 +1,6 @@
 -- What the laws of reading back say of a time.
-use Rattle.std.specs.Prelude.{◌≡◌, ◌⊎◌, ◌≤◌, ◌<◌, ◌%◌, ◌≤ℤ◌, if◌then◌else◌, ℕ, ℤ, pos, ◌*ℤ◌, List, Some, IsSomeAnd, Result, MatchResult, String, string_bytes, unsigned_abs}
+use Rattle.std.specs.Prelude.{◌≡◌, ◌⊎◌, ◌≤◌, ◌<◌, ◌%◌, ◌≤ℤ◌, if◌then◌else◌, ℕ, ℤ, pos, ◌*ℤ◌, List, Some, IsSomeAnd, Result, MatchResult}
+use Rattle.std.specs.Prelude.{String, string_bytes, unsigned_abs}
 use Rattle.std.specs.Global.{Global}
 use Rattle.gix_date.specs.Fields.ClockNumbers.{seconds_per_minute, seconds_per_day}
 use Rattle.gix_date.specs.Families.Answer.{FamilyAnswer, Absolute, NoInstant}
@@ -9,7 +10,9 @@ use Rattle.gix_date.specs.Fields.Layout.{LocalTime}
 use Rattle.gix_date.specs.Header.Text.{header_text}
 use Rattle.gix_date.specs.Text.Numbers.{decimal_text}
 use Rattle.gix_date.specs.Printing.LocalClocks.{clock_of, local_day, HasFourDigitFields}
-use Rattle.gix_date.specs.Printing.NamedTexts.{short_text, rfc2822_pattern, rfc2822_text, git_rfc2822_pattern, git_rfc2822_text, iso8601_pattern, iso8601_text, iso8601_strict_pattern, iso8601_strict_text, gitoxide_pattern, gitoxide_text, default_pattern, default_text}
+use Rattle.gix_date.specs.Printing.NamedTexts.{short_text, rfc2822_pattern, rfc2822_text, git_rfc2822_pattern, git_rfc2822_text}
+use Rattle.gix_date.specs.Printing.NamedTexts.{iso8601_pattern, iso8601_text, iso8601_strict_pattern, iso8601_strict_text, gitoxide_pattern}
+use Rattle.gix_date.specs.Printing.NamedTexts.{gitoxide_text, default_pattern, default_text}
 use Rattle.gix_date.specs.Families.Patterns.{max_date_offset}
 use Rattle.gix_date.specs.Printing.Formats.{PrintsPattern}
 use Rattle.gix_date.specs.Printing.PrintedTimes.{IsPrintedAs}

@@ -1,5 +1,6 @@
 -- Which words of a text are counts and periods, and which texts are pairs of these.
-use Rattle.std.specs.Prelude.{ℕ, Bool, true, false, not, ◌&&◌, ◌||◌, List, [], ◌∷◌, ℤ, if◌then◌else◌, Option, Some, None, is_some, filter_map}
+use Rattle.std.specs.Prelude.{ℕ, Bool, true, false, not, ◌&&◌, ◌||◌, List, [], ◌∷◌, ℤ, if◌then◌else◌, Option, Some, None, is_some}
+use Rattle.std.specs.Prelude.{filter_map}
 use Rattle.std.specs.List.{fold, list_any, list_all}
 use Rattle.gix_date.specs.Text.Front.{◌>>=◌}
 use Rattle.gix_date.specs.Text.Places.{Place, places}

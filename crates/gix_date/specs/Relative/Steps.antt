@@ -1,7 +1,8 @@
 -- What takes an instant back in a zone, in jiff's words.
 use Rattle.std.specs.Prelude.{◌≡◌, ◌+◌, ℤ, pos, ◌+ℤ◌, ◌-ℤ◌, ◌*ℤ◌, unsigned_abs, FitsSigned, List, [], ◌∷◌, Option, Some, None}
 use Rattle.std.specs.Int.{w64, int_div_euclid, int_rem_euclid}
-use Rattle.jiff.specs.Words.{plain_zoned, offset_at, picked_instant, civil_nanos, nanos_of_seconds, time_nanos, epoch_day, month_number, IsTimestampNanos, IsYear, zoned_nanos}
+use Rattle.jiff.specs.Words.{plain_zoned, offset_at, picked_instant, civil_nanos, nanos_of_seconds, time_nanos, epoch_day, month_number}
+use Rattle.jiff.specs.Words.{IsTimestampNanos, IsYear, zoned_nanos}
 use Rattle.jiff.specs.Types.{TimeZone, DateTime, Date, Time as TimeOfDay}
 use Rattle.jiff.specs.declared.zoned.Zoned.{Zoned}
 use Rattle.jiff_core.specs.Calendar.{days_from_civil}

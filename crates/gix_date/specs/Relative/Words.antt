@@ -1,5 +1,6 @@
 -- The words of a relative text: what each counts, and which unit it names.
-use Rattle.std.specs.Prelude.{ℕ, ◌+◌, ◌-◌, ◌*◌, Bool, ◌||◌, not, List, [], ◌∷◌, length, take, filter, ℤ, pos, ◌==◌, if◌then◌else◌, Option, Some, unwrap_or, slice_index, codes}
+use Rattle.std.specs.Prelude.{ℕ, ◌+◌, ◌-◌, ◌*◌, Bool, ◌||◌, not, List, [], ◌∷◌, length, take, filter, ℤ, pos, ◌==◌, if◌then◌else◌, Option}
+use Rattle.std.specs.Prelude.{Some, unwrap_or, slice_index, codes}
 use Rattle.std.specs.Option.{option_map}
 use Rattle.std.specs.Char.{is_ascii_alphanumeric, is_ascii_digit}
 use Rattle.std.specs.List.{slice_split, list_all, position}

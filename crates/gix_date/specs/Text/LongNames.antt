@@ -3,7 +3,7 @@
 use Rattle.std.specs.Char.{to_ascii_lowercase}
 use Rattle.std.specs.List.{position}
 use Rattle.std.specs.Prelude.{ℕ, ◌+◌, ◌==◌, Bool, false, ◌&&◌, List, [], ◌∷◌, length, take, nat_le, codes, Option, option_map}
-use Rattle.gix_date.specs.Text.Names.{is_name}
+use Rattle.gix_date.specs.Text.Names.{is_name, whole_month_names}
 
 -- a word is the front of a name, in any letter case
 abbrev pub begins : List ℕ → List ℕ → Bool
@@ -17,11 +17,6 @@ least = 3
 abbrev pub is_short : List ℕ → List ℕ → Bool
 is_short word name = nat_le least (length word) && begins word name
 
-abbrev pub long_month_names : List (List ℕ)
-long_month_names =
-    codes "January" ∷ codes "February" ∷ codes "March" ∷ codes "April" ∷ codes "May" ∷ codes "June" ∷ codes "July"
-    ∷ codes "August" ∷ codes "September" ∷ codes "October" ∷ codes "November" ∷ codes "December" ∷ []
-
 -- the names of days, which Git knows with an `s` at their end
 abbrev pub long_day_names : List (List ℕ)
 long_day_names =
@@ -30,7 +25,7 @@ long_day_names =
 
 -- the month that a word tells, from 1
 unfoldable pub month_told : List ℕ → Option ℕ
-month_told word = option_map (λ place. place + 1) (position (is_short word) long_month_names)
+month_told word = option_map (λ place. place + 1) (position (is_short word) whole_month_names)
 
 -- the day of the week that a word tells, from 0 for Monday
 unfoldable pub weekday_told : List ℕ → Option ℕ
@@ -44,7 +39,7 @@ tells u v w end _ = false
 
 -- the month and the day of the week that are told by three small letters and what follows them
 abbrev pub month_by : ℕ → ℕ → ℕ → List ℕ → Option ℕ
-month_by u v w end = option_map (λ place. place + 1) (position (tells u v w end) long_month_names)
+month_by u v w end = option_map (λ place. place + 1) (position (tells u v w end) whole_month_names)
 
 abbrev pub weekday_by : ℕ → ℕ → ℕ → List ℕ → Option ℕ
 weekday_by u v w end = position (tells u v w end) long_day_names

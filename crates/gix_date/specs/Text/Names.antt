@@ -37,6 +37,25 @@ day_name weekday = get_or day_names weekday []
 abbrev pub month_name : ℕ → List ℕ
 month_name month = get_or month_names (month - 1) []
 
+-- the whole names of days, from Monday, and of months
+abbrev pub whole_day_names : List (List ℕ)
+whole_day_names =
+    codes "Monday" ∷ codes "Tuesday" ∷ codes "Wednesday" ∷ codes "Thursday" ∷ codes "Friday" ∷ codes "Saturday"
+    ∷ codes "Sunday" ∷ []
+
+abbrev pub whole_month_names : List (List ℕ)
+whole_month_names =
+    codes "January" ∷ codes "February" ∷ codes "March" ∷ codes "April" ∷ codes "May" ∷ codes "June" ∷ codes "July"
+    ∷ codes "August" ∷ codes "September" ∷ codes "October" ∷ codes "November" ∷ codes "December" ∷ []
+
+-- the whole name of a day of the week, from 0 for Monday
+abbrev pub whole_day_name : ℕ → List ℕ
+whole_day_name weekday = get_or whole_day_names weekday []
+
+-- the whole name of a month, from 1 for January
+abbrev pub whole_month_name : ℕ → List ℕ
+whole_month_name month = get_or whole_month_names (month - 1) []
+
 abbrev pub number_names : List (List ℕ)
 number_names =
     codes "one" ∷ codes "two" ∷ codes "three" ∷ codes "four" ∷ codes "five" ∷ codes "six" ∷ codes "seven"

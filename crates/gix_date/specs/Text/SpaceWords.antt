@@ -1,5 +1,6 @@
 -- White space, and the words that stand between it.
-use Rattle.std.specs.Prelude.{◌≡◌, ℕ, Bool, List, [], ◌∷◌, true, false, filter, map, encode_utf8_all, Option, Some, None, option_map, option_copied}
+use Rattle.std.specs.Prelude.{◌≡◌, ℕ, Bool, List, [], ◌∷◌, true, false, filter, map, encode_utf8_all, Option, Some, None, option_map}
+use Rattle.std.specs.Prelude.{option_copied}
 use Rattle.std.specs.Char.{is_whitespace, char_set_contains}
 use Rattle.std.specs.List.{slice_split}
 use Rattle.std.specs.Str.{chars}

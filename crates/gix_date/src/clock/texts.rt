@@ -66,7 +66,8 @@ fn push_from_year<const CAP: usize>(text: &mut ArrayString<CAP>, t: Clock)
 #[inline(always)]
 fn push_from_month<const CAP: usize>(text: &mut ArrayString<CAP>, t: Clock)
     requires { array_string_len text.old + 24 ≤ CAP }
-    ensures bytes { text.new.bytes ≡ text.old.bytes ++ Spec.space ∷ Spec.month_name t.date.month ++ Spec.space ∷ Spec.four_digits t.date.year
+    ensures bytes { text.new.bytes ≡ text.old.bytes ++ Spec.space ∷ Spec.month_name t.date.month
+        ++ Spec.space ∷ Spec.four_digits t.date.year
         ++ Spec.space ∷ Spec.clock_text t.clock ++ Spec.space ∷ Spec.compact_offset_text t.offset }
     ensures len { array_string_len text.new ≡ array_string_len text.old + 24 }
 {

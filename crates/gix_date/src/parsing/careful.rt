@@ -1,5 +1,6 @@
 //! Dates for callers that must not guess: which texts are careful, and which zone a date without an offset has.
-ghost use Rattle.std.specs.Prelude.{◌≡◌, ◌-ℤ◌, [], ◌∷◌, true, if◌then◌else◌, Some, None, IfOk, IfErr, IfSome, IsCharBoundary, List, option_map, ℕ};
+ghost use Rattle.std.specs.Prelude.{◌≡◌, ◌-ℤ◌, [], ◌∷◌, true, if◌then◌else◌, Some, None, IfOk, IfErr, IfSome, IsCharBoundary, List};
+ghost use Rattle.std.specs.Prelude.{option_map, ℕ};
 ghost use Rattle.jiff.specs.Words.{fixed_zone, IsOffsetSeconds};
 ghost use Rattle.jiff_core.specs.Calendar.{weekday_number};
 ghost use Rattle.gix_date.specs.declared.parsing.careful.Texts.TheVariants.{Careful, All};
@@ -182,7 +183,8 @@ fn read_git(
     requires offset { IsOffsetSeconds date.time.offset }
     requires boundary { IsCharBoundary input.now pairs_end }
     ensures reading { Spec.reading_of result ≡ Spec.clear_or (Spec.is_whole_git input.now)
-        (Spec.unzoned_or without_offset (Spec.unzoned_git_time input.now) (Spec.First (Some (Spec.Absolute date.time)))) (Spec.longest_front input.now pairs_end) }
+        (Spec.unzoned_or without_offset (Spec.unzoned_git_time input.now) (Spec.First (Some (Spec.Absolute date.time))))
+        (Spec.longest_front input.now pairs_end) }
     ensures fits { Spec.IsReadingOf input.now result }
 {
     if !date.is_whole {

@@ -4,7 +4,7 @@ ghost use Rattle.std.specs.Prelude.{◌≡◌, ◌<◌, IfSome, option_copied};
 ghost use Rattle.gix_date.specs as Spec;
 ghost use Rattle.std.specs.Str.{trim};
 
-use crate::civil::{ClockFields, DateFields};
+use crate::clock::{ClockFields, DateFields};
 use crate::parsing::numbers::parse_two_digits;
 
 /// The text after this character, if it is the first.

@@ -2,7 +2,7 @@
 ghost use Rattle.std.specs.Prelude.{◌≡◌, ◌<◌, ◌-◌, length, option_copied, if◌then◌else◌, nat_lt, IsCharBoundary};
 ghost use Rattle.gix_date.specs as Spec;
 
-use crate::civil::is_date;
+use crate::clock::is_date;
 use crate::parsing::fields::skip_char;
 use crate::parsing::git::clock::parse_git_offset;
 use crate::parsing::git::read_front;

@@ -3,7 +3,7 @@ ghost use Rattle.std.specs.Prelude.{◌≡◌, ◌<◌, ◌≤◌, if◌then◌e
 ghost use Rattle.jiff.specs.Words.{IsOffsetSeconds};
 ghost use Rattle.gix_date.specs as Spec;
 
-use crate::civil::{ClockFields, DateFields, civil_instant};
+use crate::clock::{ClockFields, DateFields, civil_instant};
 use crate::parsing::fields::{read_marked_date, skip_char, trimmed};
 use crate::parsing::fronts::skip_git_clock;
 use crate::parsing::git::clock::{parse_clock, parse_git_offset};

@@ -3,7 +3,7 @@ ghost use Rattle.std.specs.Prelude.{◌≡◌, IfSome, [], ◌∷◌, option_map
 ghost use Rattle.jiff.specs.Words.{IsOffsetSeconds};
 ghost use Rattle.gix_date.specs as Spec;
 
-use crate::civil::{ClockFields, DateFields, civil_instant, is_date, midnight_instant};
+use crate::clock::{ClockFields, DateFields, civil_instant, is_date, midnight_instant};
 use crate::parsing::Answer;
 use crate::parsing::fields::skip_char;
 use crate::parsing::numbers::{read_field, read_year};

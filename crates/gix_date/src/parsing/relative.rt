@@ -73,20 +73,20 @@ impl<'a> Relative<'a> {
         ensures named { Spec.IsNamedIfAny (Spec.relative_date_of self.entry) moment.entry result }
         ensures offset_fits { IfSome result (λ t. IsOffsetSeconds t.offset) }
     {
-        let instant = self.instant(moment)?;
+        let instant = instant_of(self, moment)?;
         Some(time_of_moment(instant))
     }
+}
 
-    /// The instant that is asked for, in the moment's zone.
-    fn instant<'z>(self, moment: Zoned<'z>) -> Option<Zoned<'z>>
-        ensures reaches { Spec.IsAt
-            (Spec.Reaches (Spec.relative_date_of self.entry) (Spec.zone_of moment.entry) (zoned_nanos moment.entry)) result }
-        ensures zone { IfSome result (KeepsZone moment.entry) }
-    {
-        match self {
-            Relative::MinusSeconds(seconds) => earlier(moment, seconds),
-            Relative::MinusPairs(text) => subtract_pairs(resolve(moment)?, text),
-        }
+/// The instant that is asked for, in the moment's zone.
+fn instant_of<'z>(relative: Relative<'_>, moment: Zoned<'z>) -> Option<Zoned<'z>>
+    ensures reaches { Spec.IsAt
+        (Spec.Reaches (Spec.relative_date_of relative.entry) (Spec.zone_of moment.entry) (zoned_nanos moment.entry)) result }
+    ensures zone { IfSome result (KeepsZone moment.entry) }
+{
+    match relative {
+        Relative::MinusSeconds(seconds) => earlier(moment, seconds),
+        Relative::MinusPairs(text) => subtract_pairs(resolve(moment)?, text),
     }
 }
 

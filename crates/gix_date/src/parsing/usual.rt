@@ -4,7 +4,7 @@ ghost use Rattle.std.specs.Prelude.{◌≡◌, ◌≤◌, ◌<◌, ◌+◌, leng
 ghost use Rattle.jiff.specs.Words.{IsOffsetSeconds};
 ghost use Rattle.gix_date.specs as Spec;
 
-use crate::civil::{ClockFields, DateFields, instant_at};
+use crate::clock::{ClockFields, DateFields, instant_at};
 use crate::parsing::Answer;
 use crate::parsing::dates::epoch_time;
 use crate::parsing::fast::fast_number;

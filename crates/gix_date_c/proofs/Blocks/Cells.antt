@@ -1,5 +1,6 @@
 -- What the cells of a line hold after a call for many lines.
-use Rattle.std.proofs.Common.{◌≡◌, ◌∙◌, ℕ, ℤ, pos, zero, suc, ◌<◌, List, [], ◌∷◌, length, get_or, refl, ap, ap₂, subst, arith, Result, Ok, Err}
+use Rattle.std.proofs.Common.{◌≡◌, ◌∙◌, ℕ, ℤ, pos, zero, suc, ◌<◌, List, [], ◌∷◌, length, get_or, refl, ap, ap₂, subst, arith, Result, Ok}
+use Rattle.std.proofs.Common.{Err}
 use Rattle.std.proofs.lemmas.Slice.Zip.{AllZip-long}
 use Rattle.std.specs.List.{AllZip}
 use Rattle.gix_date_c.specs.Laws.{LinesAreTexts, time_at}
@@ -11,7 +12,8 @@ use Rattle.gix_date_c.specs.declared.values.status.Status.{Status}
 use Rattle.gix_date_c.specs.declared.values.status.Status.TheVariants.{NotText}
 use Rattle.gix_date_c.specs.declared.values.time.CTime.{CTime}
 
-cell-changed : {A B : Type 0} (change : B → A → A) (values : List B) (cells : List A) (i : ℕ) (value : B) (cell : A) → i < length values → i < length cells
+cell-changed : {A B : Type 0} (change : B → A → A) (values : List B) (cells : List A) (i : ℕ) (value : B) (cell : A) → i < length values
+    → i < length cells
     → get_or (changed change values cells) i cell ≡ change (get_or values i value) (get_or cells i cell)
 cell-changed change [] cells i value cell h k = absurd (omega arith)
 cell-changed change (v ∷ vs) [] i value cell h k = absurd (omega arith)
@@ -41,7 +43,10 @@ lines_are_texts reader block old new done h i k =
       get_or h.answers i none,
       zip-at (IsLineRead reader) h.lines h.answers i [] none h.each line,
       stored-so (get_or h.answers i none) (time_at old i) (time_at new i) (get_or old.statuses i 0) (get_or new.statuses i 0)
-          (ap (λ (c : Columns). get_or c.seconds i (pos 0)) h.stored ∙ cell-changed seconds_after h.answers old.seconds i none (pos 0) answer (omega arith))
-          (ap (λ (c : Columns). get_or c.offsets i (pos 0)) h.stored ∙ cell-changed offset_after h.answers old.offsets i none (pos 0) answer (omega arith))
-          (ap (λ (c : Columns). get_or c.statuses i 0) h.stored ∙ cell-changed status_after h.answers old.statuses i none 0 answer (omega arith)),
+          (ap (λ (c : Columns). get_or c.seconds i (pos 0)) h.stored
+          ∙ cell-changed seconds_after h.answers old.seconds i none (pos 0) answer (omega arith))
+          (ap (λ (c : Columns). get_or c.offsets i (pos 0)) h.stored
+          ∙ cell-changed offset_after h.answers old.offsets i none (pos 0) answer (omega arith))
+          (ap (λ (c : Columns). get_or c.statuses i 0) h.stored
+          ∙ cell-changed status_after h.answers old.statuses i none 0 answer (omega arith)),
     )

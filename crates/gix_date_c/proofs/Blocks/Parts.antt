@@ -1,5 +1,6 @@
 -- The lines of a block that are read so far.
-use Rattle.std.proofs.Common.{◌≡◌, ◌≢◌, ◌∙◌, ◌⊎◌, inl, inr, ℕ, ◌-◌, ◌≤◌, List, [], ◌∷◌, ◌++◌, length, refl, sym, ap, arith, append_assoc, append-nil, length-append}
+use Rattle.std.proofs.Common.{◌≡◌, ◌≢◌, ◌∙◌, ◌⊎◌, inl, inr, ℕ, ◌-◌, ◌≤◌, List, [], ◌∷◌, ◌++◌, length, refl, sym, ap, arith, append_assoc}
+use Rattle.std.proofs.Common.{append-nil, length-append}
 use Rattle.std.proofs.lemmas.List.Elements.{All-nil}
 use Rattle.std.specs.List.{flat_map}
 use Rattle.gix_date.specs.Text.Characters.{newline}
@@ -32,7 +33,8 @@ Splits-more front line rest lines h ended is_line = record {
 }
 
 -- lines that have ended, with one more
-with_line : (lines all : List (List ℕ)) (rest line : List ℕ) → all ≡ lines ++ last_line rest → rest ≡ [] → all ++ line ∷ [] ≡ lines ++ line ∷ []
+with_line : (lines all : List (List ℕ)) (rest line : List ℕ) → all ≡ lines ++ last_line rest → rest ≡ []
+    → all ++ line ∷ [] ≡ lines ++ line ∷ []
 with_line lines all rest line is ended =
     ap (λ xs. xs ++ line ∷ []) (is ∙ ap (λ xs. lines ++ last_line xs) ended ∙ append-nil lines)
 
@@ -87,7 +89,8 @@ no-more left [] after none (is_line, inl cut) = let clash : newline ∷ after �
 no-more left (b ∷ bs) after none (is_line, inl cut) = let clash : (b ∷ bs) ++ newline ∷ after ≡ [] = sym cut ∙ none in cc
 no-more left line after none (is_line, inr last) = last.2 (sym last.0 ∙ none)
 
-next : (block left line after : List ℕ) (lines : List (List ℕ)) (far : SoFar block left lines) → (far.part.beyond ≡ []) ⊎ (far.part.rest ≡ [])
+next : (block left line after : List ℕ) (lines : List (List ℕ)) (far : SoFar block left lines)
+    → (far.part.beyond ≡ []) ⊎ (far.part.rest ≡ [])
     → IsCutAfter left (line, after) → SoFar block after (lines ++ line ∷ [])
 next block left line after lines far (inl none) cut = absurd (no-more left line after (far.left_is ∙ none) cut)
 next block left line after lines far (inr ended) (is_line, inl cut) = ended-next block left line after lines far ended is_line cut

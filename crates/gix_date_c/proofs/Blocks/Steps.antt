@@ -1,5 +1,6 @@
 -- How far a block is read or checked, line by line.
-use Rattle.std.proofs.Common.{◌≡◌, ◌∙◌, ◌⊎◌, ℕ, ◌+◌, ◌-◌, ◌<◌, ◌≤◌, List, [], ◌∷◌, ◌++◌, length, refl, sym, ap, subst, arith, length-append, Result}
+use Rattle.std.proofs.Common.{◌≡◌, ◌∙◌, ◌⊎◌, ℕ, ◌+◌, ◌-◌, ◌<◌, ◌≤◌, List, [], ◌∷◌, ◌++◌, length, refl, sym, ap, subst, arith, length-append}
+use Rattle.std.proofs.Common.{Result}
 use Rattle.std.proofs.Math.ListN.{set}
 use Rattle.std.proofs.lemmas.Slice.Zip.{AllZip-long}
 use Rattle.std.specs.List.{AllZip}
@@ -43,8 +44,10 @@ Reading-none Reads block old = record {
   within = omega arith;
 }
 
-pub Reading-next : (Reads : List ℕ → Result CTime Status → Type 0) (block : List ℕ) (old new newer : Columns) (left line after : List ℕ) (done : ℕ)
-    (answer : Result CTime Status) → Reading Reads block old new (left, done) → done < room_of old → IsCutAfter left (line, after) → Reads line answer
+pub Reading-next : (Reads : List ℕ → Result CTime Status → Type 0) (block : List ℕ) (old new newer : Columns) (left line after : List ℕ)
+    (done : ℕ)
+    (answer : Result CTime Status) → Reading Reads block old new (left, done) → done < room_of old → IsCutAfter left (line, after)
+    → Reads line answer
     → newer ≡ with_answer done answer new → Reading Reads block old newer (after, done + 1)
 Reading-next Reads block old new newer left line after done answer h room cut reads put =
     let many : done ≡ length h.answers = h.counted ∙ sym (AllZip-long Reads h.lines h.answers h.each) in
@@ -61,7 +64,8 @@ Reading-next Reads block old new newer left line after done answer h room cut re
     }
 
 pub Reading-all : (Reads : List ℕ → Result CTime Status → Type 0) (block : List ℕ) (old new : Columns) (left : List ℕ) (done : ℕ)
-    → Reading Reads block old new (left, done) → (left ≡ []) ⊎ (done ≡ room_of old) → DoesLines Reads block old new (done, length block - length left)
+    → Reading Reads block old new (left, done) → (left ≡ []) ⊎ (done ≡ room_of old)
+    → DoesLines Reads block old new (done, length block - length left)
 Reading-all Reads block old new left done h end = record {
   lines = h.lines;
   answers = h.answers;
@@ -84,7 +88,8 @@ pub Checking-none : (block old : List ℕ) → Checking block old old (block, 0)
 Checking-none block old = record { lines = []; so_far = SoFar-none block; stored = refl; counted = refl; within = omega arith }
 
 pub Checking-next : (block old new newer left line after : List ℕ) (done : ℕ) → Checking block old new (left, done) → done < length old
-    → IsCutAfter left (line, after) → newer ≡ set new done (bool_for_c (is_canonical_header line)) → Checking block old newer (after, done + 1)
+    → IsCutAfter left (line, after) → newer ≡ set new done (bool_for_c (is_canonical_header line))
+    → Checking block old newer (after, done + 1)
 Checking-next block old new newer left line after done h room cut put =
     let space : length h.lines < length old = subst (λ n. n < length old) h.counted room in
     let cell = bool_for_c (is_canonical_header line) in

@@ -7,7 +7,7 @@ use Rattle.git_date.specs.Show.OwnDates.{own_date_shown}
 use Rattle.git_date.specs.declared.mode.DateMode.{DateMode}
 use Rattle.git_date.specs.declared.show.own.OwnDateError.{OwnDateError}
 use Rattle.git_date.specs.declared.show.own.OwnDateError.TheVariants as faults
-use Rattle.gix_signature.specs.declared.ident.time.GitTime.{GitTime}
+use Rattle.gix_signature.specs.declared.ident.GitTime.{GitTime}
 use Rattle.gix_date_c.specs.Git.Modes.{mode_of}
 use Rattle.gix_date_c.specs.Moments.{IsPlaced, Place}
 use Rattle.gix_date_c.specs.declared.git.show.CMode.{CMode}

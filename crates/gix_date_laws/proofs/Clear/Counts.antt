@@ -1,7 +1,8 @@
 -- Counts of careful texts, as a test and as a fact, and that no word is two of a count, a unit, `and` and `ago`.
 use Rattle.std.proofs.lemmas.Bool.Decides.{nat_tests}
 use Rattle.std.proofs.lemmas.Grind.{common_steps}
-use Rattle.std.proofs.Common.{◌≡◌, ◌∙◌, inl, inr, ℕ, ℤ, pos, ◌<◌, length, arith, Bool, true, false, cond, List, [], ◌∷◌, refl, ap, sym, subst, Option, Some, None, FitsSigned, w64}
+use Rattle.std.proofs.Common.{◌≡◌, ◌∙◌, inl, inr, ℕ, ℤ, pos, ◌<◌, length, arith, Bool, true, false, cond, List, [], ◌∷◌, refl, ap, sym}
+use Rattle.std.proofs.Common.{subst, Option, Some, None, FitsSigned, w64}
 use Rattle.std.proofs.lemmas.Bool.{and_parts as both, false_from_ne_true as not-true, not-true as not-is, not-true as not_is}
 use Rattle.std.specs.Char.{is_ascii_digit}
 use Rattle.std.specs.List.{list_all}
@@ -18,7 +19,8 @@ use Rattle.gix_date.specs.Text.Numbers.{fits_i64, int_value}
 use Rattle.gix_date.proofs.Families.Apart.{digit-no-minus as not-minus, digit-no-plus as not-plus}
 use Rattle.gix_date.proofs.Fast.FastHeaders.{int-taken}
 use Rattle.gix_date.proofs.Text.Ints.{each_of, fits_from}
-use Rattle.gix_date.proofs.Relative.QuietWords.{says_nothing, like-any, like-ago, like-name, like-named, like-singular, lower-same, named-any, names_of, one-run-word}
+use Rattle.gix_date.proofs.Relative.QuietWords.{says_nothing, like-any, like-ago, like-name, like-named, like-singular, lower-same}
+use Rattle.gix_date.proofs.Relative.QuietWords.{named-any, names_of, one-run-word}
 use Rattle.gix_date.proofs.Relative.QuietDates.{quiet-digits, digits-run as digit-letters}
 use Rattle.gix_date.specs.Careful.Grammar.{IsPlainCount, number_words}
 use Rattle.gix_date_laws.proofs.Numbers.Grammars.{bare_int}
@@ -41,7 +43,8 @@ all-digits (c ∷ t) = ap (λ b. is_ascii_digit c && b) (all-digits t)
 digits-no-name : (w name : List ℕ) → list_all is_ascii_digit w ≡ true → list_all is_ascii_digit name ≡ false → is_name w name ≡ false
 digits-no-name w name d n = grind (arith, not-true, digits-low, lower-same)
 
-digits-no-named : {A : Type 0} (table : List (List ℕ × A)) (w : List ℕ) → list_all is_ascii_digit w ≡ true → list_all (λ row. not (list_all is_ascii_digit row.0)) table ≡ true → named_in table w ≡ None
+digits-no-named : {A : Type 0} (table : List (List ℕ × A)) (w : List ℕ) → list_all is_ascii_digit w ≡ true
+    → list_all (λ row. not (list_all is_ascii_digit row.0)) table ≡ true → named_in table w ≡ None
 digits-no-named {A} [] w d h = refl
 digits-no-named {A} ((name, said) ∷ rows) w d h =
     let p = both (not (list_all is_ascii_digit name)) (list_all (λ row. not (list_all is_ascii_digit row.0)) rows) h in
@@ -69,19 +72,29 @@ count-plain w n (inl h) =
     let e : count_of w ≡ Some n = ap (λ b. cond b (int_value w) (named_count w)) d ∙ bare_int w h.0 n h.1 h.2 h.3 in
     plain-by w n e (digits-no-name w (codes "last") d refl)
 count-plain w n (inr e) =
-    let d : list_all is_ascii_digit w ≡ false = not-true (list_all is_ascii_digit w) (λ d. let bad : None ≡ Some n = sym (digits-no-number w d) ∙ e in cc) in
-    let l : is_name w (codes "last") ≡ false = not-true (is_name w (codes "last")) (λ l. let bad : None ≡ Some n = sym (last-no-number w l) ∙ e in cc) in
-    let c : count_of w ≡ Some n = ap (λ b. cond b (int_value w) (named_count w)) d ∙ ap (λ b. cond b (Some (pos 1)) (number_named w)) l ∙ number-is w ∙ e in
+    let d : list_all is_ascii_digit w ≡ false =
+    not-true (list_all is_ascii_digit w) (λ d. let bad : None ≡ Some n = sym (digits-no-number w d) ∙ e in cc) in
+    let l : is_name w (codes "last") ≡ false =
+    not-true (is_name w (codes "last")) (λ l. let bad : None ≡ Some n = sym (last-no-number w l) ∙ e in cc) in
+    let c : count_of w ≡ Some n = ap (λ b. cond b (int_value w) (named_count w)) d ∙ ap (λ b. cond b (Some (pos 1)) (number_named w)) l
+    ∙ number-is w ∙ e in
     plain-by w n c l
 
 digits-count : (w : List ℕ) (n : ℤ) → list_all is_ascii_digit w ≡ true → int_value w ≡ Some n → IsPlainCount w n
 digits-count [] n d v = let t = (int-taken [] n v).0 in absurd cc
 digits-count (c ∷ t) n d v =
     let taken = int-taken (c ∷ t) n v in
-    let parts = each_of (nat_lt 0 (length (without_leading_sign (c ∷ t)))) (all_ascii_digits (without_leading_sign (c ∷ t))) (fits_i64 (signed_digits_value 10 (c ∷ t))) taken.0 in
+    let parts = each_of (nat_lt 0 (length (without_leading_sign (c ∷ t)))) (all_ascii_digits (without_leading_sign (c ∷ t)))
+    (fits_i64 (signed_digits_value 10 (c ∷ t))) taken.0 in
     let first = (both (is_ascii_digit c) (list_all is_ascii_digit t) d).0 in
     let bare : signed_digits_value 10 (c ∷ t) ≡ pos (digits_value 10 (c ∷ t)) = rw (not-minus c first, not-plus c first) refl in
-    inl (digits_value 10 (c ∷ t), (omega arith, all-digits (c ∷ t) ∙ d, refl), sym taken.1 ∙ bare, subst (FitsSigned w64) taken.1 (fits_from (signed_digits_value 10 (c ∷ t)) parts.2))
+    inl (
+      digits_value 10 (c ∷ t),
+      (omega arith, all-digits (c ∷ t) ∙ d, refl),
+      sym taken.1
+          ∙ bare,
+      subst (FitsSigned w64) taken.1 (fits_from (signed_digits_value 10 (c ∷ t)) parts.2),
+    )
 
 pub plain-count : (w : List ℕ) → is_plain_count w ≡ true → (n : ℤ) × IsPlainCount w n
 unfolding is_count_word count_of named_count

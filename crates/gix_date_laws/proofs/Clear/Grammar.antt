@@ -15,7 +15,8 @@ pub careful-text : (text : List ℕ) → unclear_place text ≡ None → IsCaref
 careful-text text e =
     let h = clear-scan text e in
     let o = cut-of text h in
-    let words = words-are (words_of o.pieces) (sym (scan-is o.front o.pieces o.separated o.apart) ∙ ap (scan None false) (sym o.whole) ∙ h) in
+    let words =
+    words-are (words_of o.pieces) (sym (scan-is o.front o.pieces o.separated o.apart) ∙ ap (scan None false) (sym o.whole) ∙ h) in
     (words.0, record { front = o.front; pieces = o.pieces; whole = o.whole; separated = o.separated; apart = o.apart; words = words.1 })
 
 pub text-careful : (text : List ℕ) (pairs : List (ℤ × PeriodUnit)) → IsCarefulOf text pairs → unclear_place text ≡ None

@@ -1,5 +1,6 @@
 -- No careful text is in one of Git's own forms: it begins with a count and a unit, and those with a date.
-use Rattle.std.proofs.Common.{◌≡◌, ◌∙◌, inl, inr, ℕ, ℤ, true, false, List, [], ◌∷◌, ◌++◌, filter, append_assoc, refl, ap, ap₂, sym, subst, arith, length, ◌<◌, ◌≤◌, Some, None, IsUtf8}
+use Rattle.std.proofs.Common.{◌≡◌, ◌∙◌, inl, inr, ℕ, ℤ, true, false, List, [], ◌∷◌, ◌++◌, filter, append_assoc, refl, ap, ap₂, sym, subst}
+use Rattle.std.proofs.Common.{arith, length, ◌<◌, ◌≤◌, Some, None, IsUtf8}
 use Rattle.std.proofs.Math.Bool.{and-false}
 use Rattle.std.proofs.lemmas.Bool.{and_parts as both}
 use Rattle.std.proofs.lemmas.Bool.Decides.{nat_tests}
@@ -44,9 +45,15 @@ run-parts [] rest h = let p = parts-of is_gap rest in record { tail = p.part; pa
 run-parts (c ∷ run) rest h =
     let parts = both (is_ascii_alphanumeric c) (list_all is_ascii_alphanumeric run) h in
     let more = run-parts run rest parts.1 in
-    record { tail = more.tail; parts = more.parts; is = slice_split-cons_no is_gap c (run ++ rest) (no-gap c parts.0) ∙ ap (onto_first c) more.is }
+    record {
+      tail = more.tail;
+      parts = more.parts;
+      is = slice_split-cons_no is_gap c (run ++ rest) (no-gap c parts.0)
+          ∙ ap (onto_first c) more.is;
+    }
 
-run-first : (c : ℕ) (run rest : List ℕ) → list_all is_ascii_alphanumeric (c ∷ run) ≡ true → (tail : List ℕ) × (more : List (List ℕ)) × (relative_words (c ∷ (run ++ rest)) ≡ (c ∷ (run ++ tail)) ∷ more)
+run-first : (c : ℕ) (run rest : List ℕ) → list_all is_ascii_alphanumeric (c ∷ run) ≡ true
+    → (tail : List ℕ) × (more : List (List ℕ)) × (relative_words (c ∷ (run ++ rest)) ≡ (c ∷ (run ++ tail)) ∷ more)
 unfolding relative_words
 run-first c run rest h =
     let p = run-parts (c ∷ run) rest h in
@@ -65,14 +72,17 @@ pair-digits : (t : List ℕ) (n : ℕ) → AreTwoDigits t n → all_ascii_digits
 pair-digits (a ∷ b ∷ []) n h = rw (h.0, h.1) refl
 pair-digits t n h = absurd h
 
-marked-words : (mark : ℕ) (day rest : List ℕ) (date : LocalDate) → is_gap mark ≡ true → (d : IsGitDate (mark ∷ []) day date) → (more : List (List ℕ)) × (relative_words (day ++ rest) ≡ d.year ∷ d.month ∷ more)
+marked-words : (mark : ℕ) (day rest : List ℕ) (date : LocalDate) → is_gap mark ≡ true → (d : IsGitDate (mark ∷ []) day date)
+    → (more : List (List ℕ)) × (relative_words (day ++ rest) ≡ d.year ∷ d.month ∷ more)
 marked-words mark day rest date g d =
     let after = d.day ++ rest in (
       relative_words after,
       ap (λ (t : List ℕ). relative_words (t ++ rest)) d.whole ∙ ap relative_words (joined d.year (mark ∷ []) d.month d.day rest)
           ∙ one-gap d.year mark (d.month ++ (mark ∷ after)) g
-          ∙ ap₂ (λ (a b : List (List ℕ)). a ++ b) (digits-word d.year (year-digits d.year date.year d.is_year) (year-long d.year date.year d.is_year))
-          (one-gap d.month mark after g ∙ ap (λ (ws : List (List ℕ)). ws ++ relative_words after) (digits-word d.month (pair-digits d.month date.month d.is_month) (pair-long d.month date.month d.is_month))),
+          ∙ ap₂ (λ (a b : List (List ℕ)). a ++ b)
+          (digits-word d.year (year-digits d.year date.year d.is_year) (year-long d.year date.year d.is_year))
+          (one-gap d.month mark after g ∙ ap (λ (ws : List (List ℕ)). ws ++ relative_words after)
+          (digits-word d.month (pair-digits d.month date.month d.is_month) (pair-long d.month date.month d.is_month))),
     )
 
 first-of : List (List ℕ) → List ℕ
@@ -83,13 +93,15 @@ second-of : List (List ℕ) → List ℕ
 second-of [] = []
 second-of (a ∷ ws) = first-of ws
 
-no-marked : (mark : ℕ) (x day rest : List ℕ) (date : LocalDate) (ps : List (ℤ × PeriodUnit)) → is_gap mark ≡ true → IsGitDate (mark ∷ []) day date → x ≡ day ++ rest → ArePairsAgo ps (relative_words x) → ⊥
+no-marked : (mark : ℕ) (x day rest : List ℕ) (date : LocalDate) (ps : List (ℤ × PeriodUnit)) → is_gap mark ≡ true
+    → IsGitDate (mark ∷ []) day date → x ≡ day ++ rest → ArePairsAgo ps (relative_words x) → ⊥
 unfolding first-of second-of
 no-marked mark x day rest date [] g d e h = absurd h
 no-marked mark x day rest date (pair ∷ ps) g d e h =
     let words = marked-words mark day rest date g d in
     let same : d.month ≡ h.1 = ap second-of (sym words.1 ∙ sym (ap relative_words e) ∙ h.3) in
-    let quiet = quiet-of d.month (digits-quiet d.month (pair-digits d.month date.month d.is_month) (pair-long d.month date.month d.is_month)) in
+    let quiet =
+    quiet-of d.month (digits-quiet d.month (pair-digits d.month date.month d.is_month) (pair-long d.month date.month d.is_month)) in
     let bad : true ≡ false = sym (is-unit h.1 pair.1 h.4.1) ∙ ap has_unit (sym same) ∙ quiet.unit in
     cc
 
@@ -114,17 +126,21 @@ digits-append (x ∷ xs) ys h k = let parts = both (is_ascii_digit x) (all_ascii
 
 letters-then : (xs : List ℕ) → list_all is_ascii_alphanumeric xs ≡ true → list_all is_ascii_alphanumeric (xs ++ (letter_t ∷ [])) ≡ true
 letters-then [] h = refl
-letters-then (x ∷ xs) h = let parts = both (is_ascii_alphanumeric x) (list_all is_ascii_alphanumeric xs) h in rw parts.0 (letters-then xs parts.1)
+letters-then (x ∷ xs) h = let parts = both (is_ascii_alphanumeric x) (list_all is_ascii_alphanumeric xs) h in
+    rw parts.0 (letters-then xs parts.1)
 
-no-run : (digits x rest : List ℕ) (ps : List (ℤ × PeriodUnit)) → all_ascii_digits digits ≡ true → 0 < length digits → x ≡ (digits ++ (letter_t ∷ [])) ++ rest → ArePairsAgo ps (relative_words x) → ⊥
+no-run : (digits x rest : List ℕ) (ps : List (ℤ × PeriodUnit)) → all_ascii_digits digits ≡ true → 0 < length digits
+    → x ≡ (digits ++ (letter_t ∷ [])) ++ rest → ArePairsAgo ps (relative_words x) → ⊥
 unfolding first-of
 no-run digits x rest [] d l e h = absurd h
 no-run [] x rest (pair ∷ ps) d l e h = absurd (omega (arith, l))
 no-run (c ∷ t) x rest (pair ∷ ps) d l e h =
     let words = run-first c (t ++ (letter_t ∷ [])) rest (letters-then (c ∷ t) (digit-letters (c ∷ t) d)) in
     let same : c ∷ ((t ++ (letter_t ∷ [])) ++ words.0) ≡ h.0 = ap first-of (sym words.2 ∙ sym (ap relative_words e) ∙ h.3) in
-    let not : all_ascii_digits (c ∷ ((t ++ (letter_t ∷ [])) ++ words.0)) ≡ false = ap all_ascii_digits (one-text c t words.0) ∙ not-all (c ∷ t) words.0 letter_t refl in
-    no-count c ((t ++ (letter_t ∷ [])) ++ words.0) pair.0 (both (is_ascii_digit c) (all_ascii_digits t) d).0 not (subst (λ (w : List ℕ). IsPlainCount w pair.0) (sym same) h.4.0)
+    let not : all_ascii_digits (c ∷ ((t ++ (letter_t ∷ [])) ++ words.0)) ≡ false = ap all_ascii_digits (one-text c t words.0)
+    ∙ not-all (c ∷ t) words.0 letter_t refl in
+    no-count c ((t ++ (letter_t ∷ [])) ++ words.0) pair.0 (both (is_ascii_digit c) (all_ascii_digits t) d).0 not
+    (subst (λ (w : List ℕ). IsPlainCount w pair.0) (sym same) h.4.0)
   where
     one-text : (c : ℕ) (t tail : List ℕ) → c ∷ ((t ++ (letter_t ∷ [])) ++ tail) ≡ (c ∷ t) ++ (letter_t ∷ tail)
     one-text c t tail = simp append_assoc
@@ -132,10 +148,12 @@ no-run (c ∷ t) x rest (pair ∷ ps) d l e h =
 compact-text : (y m d rest : List ℕ) → (y ++ (m ++ d)) ++ (letter_t ∷ rest) ≡ ((y ++ (m ++ d)) ++ (letter_t ∷ [])) ++ rest
 compact-text y m d rest = simp append_assoc
 
-no-compact : (x day rest : List ℕ) (date : LocalDate) (ps : List (ℤ × PeriodUnit)) → IsGitDate [] day date → x ≡ day ++ (letter_t ∷ rest) → ArePairsAgo ps (relative_words x) → ⊥
+no-compact : (x day rest : List ℕ) (date : LocalDate) (ps : List (ℤ × PeriodUnit)) → IsGitDate [] day date → x ≡ day ++ (letter_t ∷ rest)
+    → ArePairsAgo ps (relative_words x) → ⊥
 no-compact x day rest date ps d e h =
     let digits = d.year ++ (d.month ++ d.day) in
-    let all = digits-append d.year (d.month ++ d.day) (year-digits d.year date.year d.is_year) (digits-append d.month d.day (pair-digits d.month date.month d.is_month) (pair-digits d.day date.day d.is_day)) in
+    let all = digits-append d.year (d.month ++ d.day) (year-digits d.year date.year d.is_year)
+    (digits-append d.month d.day (pair-digits d.month date.month d.is_month) (pair-digits d.day date.day d.is_day)) in
     let long : 0 < length digits = omega (arith, length-append d.year (d.month ++ d.day), year-long d.year date.year d.is_year) in
     no-run digits x rest ps all long (e ∙ ap (λ (t : List ℕ). t ++ (letter_t ∷ rest)) d.whole ∙ compact-text d.year d.month d.day rest) h
 
@@ -145,13 +163,16 @@ dot-gap = refl
 minus-gap : is_gap minus ≡ true
 minus-gap = refl
 
-no-front : (x day gap rest : List ℕ) (date : LocalDate) (ps : List (ℤ × PeriodUnit)) → x ≡ day ++ (gap ++ rest) → IsGitFront day gap date → ArePairsAgo ps (relative_words x) → ⊥
+no-front : (x day gap rest : List ℕ) (date : LocalDate) (ps : List (ℤ × PeriodUnit)) → x ≡ day ++ (gap ++ rest) → IsGitFront day gap date
+    → ArePairsAgo ps (relative_words x) → ⊥
 no-front x day gap rest date ps e (inl f) h = no-marked dot x day (gap ++ rest) date ps dot-gap f.0 e h
 no-front x day gap rest date ps e (inr (inl f)) h = no-compact x day rest date ps f.0 (e ∙ ap (λ (g : List ℕ). day ++ (g ++ rest)) f.1) h
 no-front x day gap rest date ps e (inr (inr f)) h = no-marked minus x day (gap ++ rest) date ps minus-gap f.0 e h
 
-pub no-git : (text : List ℕ) → IsUtf8 text → (ps : List (ℤ × PeriodUnit)) → ArePairsAgo ps (relative_words text) → (t : Time) → git_time text ≡ Some t → ⊥
+pub no-git : (text : List ℕ) → IsUtf8 text → (ps : List (ℤ × PeriodUnit)) → ArePairsAgo ps (relative_words text) → (t : Time)
+    → git_time text ≡ Some t → ⊥
 unfolding git_time
 no-git text u ps h t e =
     let g = form-is text t e in
-    no-front (trim text) g.day g.gap g.rest g.date ps g.whole g.front (subst (λ (ws : List (List ℕ)). ArePairsAgo ps ws) (sym (words-around text u)) h)
+    no-front (trim text) g.day g.gap g.rest g.date ps g.whole g.front
+    (subst (λ (ws : List (List ℕ)). ArePairsAgo ps ws) (sym (words-around text u)) h)

@@ -1,5 +1,6 @@
 -- A text that a scan passes is separators, words and gaps; and what a scan finds in such a text.
-use Rattle.std.proofs.Common.{◌≡◌, ◌∙◌, ◌⊎◌, inl, inr, ℕ, suc, Bool, true, false, cond, List, [], ◌∷◌, ◌++◌, take, refl, ap, sym, subst, arith, Option, Some, None}
+use Rattle.std.proofs.Common.{◌≡◌, ◌∙◌, ◌⊎◌, inl, inr, ℕ, suc, Bool, true, false, cond, List, [], ◌∷◌, ◌++◌, take, refl, ap, sym, subst}
+use Rattle.std.proofs.Common.{arith, Option, Some, None}
 use Rattle.std.proofs.lemmas.Bool.{and_parts as both}
 use Rattle.std.proofs.lemmas.Bool.Decides.{nat_tests}
 use Rattle.std.specs.Char.{is_ascii_alphanumeric}
@@ -51,7 +52,8 @@ at-end false = record { front = []; pieces = []; whole = refl; separated = tt; a
 abbrev passes : Bool → ℕ → Bool
 passes after c = is_ascii_alphanumeric c || (is_separator c || (c == minus && after))
 
-passes-by : (before : Option (List ℕ)) (after : Bool) (c : ℕ) (rest : List ℕ) (a : Bool) → is_ascii_alphanumeric c ≡ a → fits before after c rest ≡ true → passes after c ≡ true
+passes-by : (before : Option (List ℕ)) (after : Bool) (c : ℕ) (rest : List ℕ) (a : Bool) → is_ascii_alphanumeric c ≡ a
+    → fits before after c rest ≡ true → passes after c ≡ true
 passes-by before after c rest true e h = rw e refl
 passes-by before after c rest false e h = let is = rw e at h in rw e is
 
@@ -61,7 +63,8 @@ or-false c h = grind (arith, nat_tests, h)
 no-nil : (c : ℕ) (t : List ℕ) (ps : List WordPiece) → (c ∷ t) ≡ [] → ps ≡ []
 no-nil c t ps e = absurd cc
 
-found-next : (after : Bool) (c : ℕ) (rest : List ℕ) (a : Bool) → is_ascii_alphanumeric c ≡ a → passes after c ≡ true → Found a rest → Found after (c ∷ rest)
+found-next : (after : Bool) (c : ℕ) (rest : List ℕ) (a : Bool) → is_ascii_alphanumeric c ≡ a → passes after c ≡ true → Found a rest
+    → Found after (c ∷ rest)
 unfolding Found
 found-next true c rest true e h f = record {
   tail = c ∷ f.tail;
@@ -119,17 +122,20 @@ chain before [] = ends_in_ago before
 chain before (word ∷ words) = may_stand_after before word && chain (Some word) words
 
 -- what a scan does with separators, and with the rest of a word
-past-separators : (before : Option (List ℕ)) (gap rest : List ℕ) → AreSeparators gap → scan before false (gap ++ rest) ≡ scan before false rest
+past-separators : (before : Option (List ℕ)) (gap rest : List ℕ) → AreSeparators gap
+    → scan before false (gap ++ rest) ≡ scan before false rest
 past-separators before [] rest h = refl
 past-separators before (c ∷ gap) rest h = rw (no-letter c h.0, is-separator c h.0) (past-separators before gap rest h.1)
 
-past-letters : (before : Option (List ℕ)) (tail rest : List ℕ) → list_all is_ascii_alphanumeric tail ≡ true → scan before true (tail ++ rest) ≡ scan before true rest
+past-letters : (before : Option (List ℕ)) (tail rest : List ℕ) → list_all is_ascii_alphanumeric tail ≡ true
+    → scan before true (tail ++ rest) ≡ scan before true rest
 past-letters before [] rest h = refl
 past-letters before (c ∷ tail) rest h =
     let parts = both (is_ascii_alphanumeric c) (list_all is_ascii_alphanumeric tail) h in
     rw parts.0 (past-letters before tail rest parts.1)
 
-past-gap : (before : Option (List ℕ)) (c : ℕ) (gap rest : List ℕ) → IsWordGap (c ∷ gap) → scan before true (c ∷ (gap ++ rest)) ≡ scan before false rest
+past-gap : (before : Option (List ℕ)) (c : ℕ) (gap rest : List ℕ) → IsWordGap (c ∷ gap)
+    → scan before true (c ∷ (gap ++ rest)) ≡ scan before false rest
 past-gap before c gap rest (inl s, h) = rw (no-letter c s, is-separator c s) (past-separators before gap rest h)
 past-gap before c gap rest (inr e, h) = ap (λ b. scan before true (b ∷ (gap ++ rest))) e ∙ past-separators before gap rest h
 
@@ -138,7 +144,8 @@ abbrev pub BeginsOutside : List ℕ → Type 0
 BeginsOutside [] = Unit {0}
 BeginsOutside (c ∷ rest) = is_ascii_alphanumeric c ≡ false
 
-one-more : (c : ℕ) (rest : List ℕ) → is_ascii_alphanumeric c ≡ true → prefix_len is_ascii_alphanumeric (c ∷ rest) ≡ suc (prefix_len is_ascii_alphanumeric rest)
+one-more : (c : ℕ) (rest : List ℕ) → is_ascii_alphanumeric c ≡ true
+    → prefix_len is_ascii_alphanumeric (c ∷ rest) ≡ suc (prefix_len is_ascii_alphanumeric rest)
 one-more c rest h = grind (arith)
 
 word-front : (word rest : List ℕ) → list_all is_ascii_alphanumeric word ≡ true → BeginsOutside rest → first_word (word ++ rest) ≡ word
@@ -146,7 +153,8 @@ word-front [] [] h o = refl
 word-front [] (c ∷ rest) h o = rw o refl
 word-front (c ∷ word) rest h o =
     let parts = both (is_ascii_alphanumeric c) (list_all is_ascii_alphanumeric word) h in
-    let size : prefix_len is_ascii_alphanumeric (c ∷ (word ++ rest)) ≡ suc (prefix_len is_ascii_alphanumeric (word ++ rest)) = one-more c (word ++ rest) parts.0 in
+    let size : prefix_len is_ascii_alphanumeric (c ∷ (word ++ rest)) ≡ suc (prefix_len is_ascii_alphanumeric (word ++ rest)) =
+    one-more c (word ++ rest) parts.0 in
     ap (λ n. take n (c ∷ (word ++ rest))) size ∙ ap (λ (t : List ℕ). c ∷ t) (word-front word rest parts.1 o)
 
 past-word : (before : Option (List ℕ)) (c : ℕ) (tail rest : List ℕ) → list_all is_ascii_alphanumeric (c ∷ tail) ≡ true → BeginsOutside rest
@@ -154,20 +162,25 @@ past-word : (before : Option (List ℕ)) (c : ℕ) (tail rest : List ℕ) → li
 past-word before c tail rest h o =
     let parts = both (is_ascii_alphanumeric c) (list_all is_ascii_alphanumeric tail) h in
     ap (λ (b : Bool). fits before false c (tail ++ rest) && scan (next before false c (tail ++ rest)) b (tail ++ rest)) parts.0
-    ∙ ap (λ (b : Bool). cond (b && true) (may_stand_after before (first_word (c ∷ (tail ++ rest)))) (b || (is_separator c || (c == minus && false))) && scan (cond (b && true) (Some (first_word (c ∷ (tail ++ rest)))) before) true (tail ++ rest)) parts.0
+    ∙ ap (λ (b : Bool).
+    cond (b && true) (may_stand_after before (first_word (c ∷ (tail ++ rest)))) (b || (is_separator c || (c == minus && false)))
+    && scan (cond (b && true) (Some (first_word (c ∷ (tail ++ rest)))) before) true (tail ++ rest)) parts.0
     ∙ ap (λ (w : List ℕ). may_stand_after before w && scan (Some w) true (tail ++ rest)) (word-front (c ∷ tail) rest h o)
     ∙ ap (λ (b : Bool). may_stand_after before (c ∷ tail) && b) (past-letters (Some (c ∷ tail)) tail rest parts.1)
 
-outside : (gap : List ℕ) (pieces : List WordPiece) → IsWordGap gap → ((gap ≡ []) → pieces ≡ []) → BeginsOutside (gap ++ joined_pieces pieces)
+outside : (gap : List ℕ) (pieces : List WordPiece) → IsWordGap gap → ((gap ≡ []) → pieces ≡ [])
+    → BeginsOutside (gap ++ joined_pieces pieces)
 outside [] pieces h last = subst (λ (ps : List WordPiece). BeginsOutside (joined_pieces ps)) (sym (last refl)) tt
 outside (c ∷ gap) pieces h last = no-letter-gap c h.0
 
-after-word : (word gap : List ℕ) (pieces : List WordPiece) → IsWordGap gap → ((gap ≡ []) → pieces ≡ []) → scan (Some word) false (joined_pieces pieces) ≡ chain (Some word) (words_of pieces)
+after-word : (word gap : List ℕ) (pieces : List WordPiece) → IsWordGap gap → ((gap ≡ []) → pieces ≡ [])
+    → scan (Some word) false (joined_pieces pieces) ≡ chain (Some word) (words_of pieces)
     → scan (Some word) true (gap ++ joined_pieces pieces) ≡ chain (Some word) (words_of pieces)
 after-word word [] pieces h last more = grind (arith, scan)
 after-word word (c ∷ gap) pieces h last more = past-gap (Some word) c gap (joined_pieces pieces) h ∙ more
 
-pieces-scan : (before : Option (List ℕ)) (pieces : List WordPiece) → AreSeparated pieces → scan before false (joined_pieces pieces) ≡ chain before (words_of pieces)
+pieces-scan : (before : Option (List ℕ)) (pieces : List WordPiece) → AreSeparated pieces
+    → scan before false (joined_pieces pieces) ≡ chain before (words_of pieces)
 pieces-scan before [] h = refl
 pieces-scan before (([], gap) ∷ pieces) h = absurd h.0
 pieces-scan before ((c ∷ tail, gap) ∷ pieces) h =
@@ -175,5 +188,6 @@ pieces-scan before ((c ∷ tail, gap) ∷ pieces) h =
     ∙ ap (λ b. may_stand_after before (c ∷ tail) && b) (after-word (c ∷ tail) gap pieces h.1 h.2 (pieces-scan (Some (c ∷ tail)) pieces h.3))
 
 -- a text so cut is passed where its words may stand so
-pub scan-is : (front : List ℕ) (pieces : List WordPiece) → AreSeparators front → AreSeparated pieces → scan None false (front ++ joined_pieces pieces) ≡ chain None (words_of pieces)
+pub scan-is : (front : List ℕ) (pieces : List WordPiece) → AreSeparators front → AreSeparated pieces
+    → scan None false (front ++ joined_pieces pieces) ≡ chain None (words_of pieces)
 scan-is front pieces s a = past-separators None front (joined_pieces pieces) s ∙ pieces-scan None pieces a

@@ -2,7 +2,8 @@
 use Rattle.std.proofs.Common.{◌≡◌, ◌∙◌, ℕ, pos, List, ◌∷◌, ◌++◌, refl, sym, Some, None}
 use Rattle.std.specs.Prelude.{codes}
 use Rattle.gix_date.specs.Computing.{computing}
-use Rattle.gix_date.specs.Careful.Dates.{day_named, first_day, is_in_years_if_number, is_large_if_number, is_number, names_its_day, unzoned_day}
+use Rattle.gix_date.specs.Careful.Dates.{day_named, first_day, is_in_years_if_number, is_large_if_number, is_number, names_its_day}
+use Rattle.gix_date.specs.Careful.Dates.{unzoned_day}
 use Rattle.gix_date.specs.Careful.Grammar.{IsCarefulText}
 use Rattle.gix_date.specs.Careful.Outcome.{AfterYear9999, First, Reading, careful_reading, default_options}
 use Rattle.gix_date.specs.Careful.Texts.{is_clear_at, unclear_place}
@@ -48,5 +49,6 @@ numbers :
     × Reads (codes "253402300799") (seconds_read 253402300799)
     × Reads (codes "253402300800") AfterYear9999
     × Reads (codes "@253402300800") (seconds_read 253402300800)
-unfolding computing careful_reading unclear_place is_clear_at unzoned_day names_its_day first_day day_named is_in_years_if_number is_large_if_number is_number
+unfolding computing careful_reading unclear_place is_clear_at unzoned_day names_its_day first_day day_named is_in_years_if_number
+    is_large_if_number is_number
 numbers = (refl, refl, refl, refl, refl)

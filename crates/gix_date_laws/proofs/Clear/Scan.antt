@@ -1,14 +1,16 @@
 -- A text's places, from the left: what is asked of each, by the word before it.
 use Rattle.std.proofs.lemmas.Bool.Decides.{nat_tests}
 use Rattle.std.proofs.lemmas.Grind.{common_steps}
-use Rattle.std.proofs.Common.{◌≡◌, ◌∙◌, ◌+◌, ◌<◌, ◌≤◌, ◌⊎◌, inl, inr, ℕ, zero, suc, Bool, true, false, cond, List, [], ◌∷◌, length, take, drop, refl, ap, ap₂, sym, arith, Option, Some, None}
+use Rattle.std.proofs.Common.{◌≡◌, ◌∙◌, ◌+◌, ◌<◌, ◌≤◌, ◌⊎◌, inl, inr, ℕ, zero, suc, Bool, true, false, cond, List, [], ◌∷◌, length, take}
+use Rattle.std.proofs.Common.{drop, refl, ap, ap₂, sym, arith, Option, Some, None}
 use Rattle.std.proofs.lemmas.Bool.{cases_lt, and_parts as both}
 use Rattle.std.proofs.lemmas.List.{drop-drop, get_or-drop, length-drop}
 use Rattle.std.specs.Char.{is_ascii_alphanumeric}
 use Rattle.std.specs.List.{prefix_len}
 use Rattle.std.specs.Option.{option_map, option_or}
 use Rattle.std.specs.Prelude.{◌&&◌, ◌||◌, not, slice_index, ◌==◌}
-use Rattle.gix_date.specs.Careful.Texts.{after_word, begins_word, ends_in_ago, first_failure, is_clear_at, is_separator, may_stand_after, unclear_place, word_at, word_before}
+use Rattle.gix_date.specs.Careful.Texts.{after_word, begins_word, ends_in_ago, first_failure, is_clear_at, is_separator, may_stand_after}
+use Rattle.gix_date.specs.Careful.Texts.{unclear_place, word_at, word_before}
 use Rattle.gix_date.specs.Git.ClockCut.{last_place}
 use Rattle.gix_date.specs.Text.Characters.{minus}
 use Rattle.gix_date.proofs.Careful.Failures.{goes_on}
@@ -45,7 +47,8 @@ drop-next text k c rest d =
 drop-within : (text : List ℕ) (k c : ℕ) (rest : List ℕ) → drop k text ≡ c ∷ rest → k < length text
 drop-within text k c rest d = omega (arith, ap length d, length-drop k text)
 
-clear-is : (text : List ℕ) (k c : ℕ) (rest : List ℕ) → drop k text ≡ c ∷ rest → is_clear_at text k ≡ fits (word_before text k) (after_word text k) c rest
+clear-is : (text : List ℕ) (k c : ℕ) (rest : List ℕ) → drop k text ≡ c ∷ rest
+    → is_clear_at text k ≡ fits (word_before text k) (after_word text k) c rest
 unfolding is_clear_at
 clear-is text k c rest d = rw (stands text k c rest d, d) refl
 
@@ -53,19 +56,23 @@ map-cond : (f : ℕ → List ℕ) (b : Bool) (k : ℕ) (o : Option ℕ) → opti
 map-cond f true k o = refl
 map-cond f false k o = refl
 
-before-is : (text : List ℕ) (k c : ℕ) (rest : List ℕ) → drop k text ≡ c ∷ rest → word_before text (suc k) ≡ next (word_before text k) (after_word text k) c rest
+before-is : (text : List ℕ) (k c : ℕ) (rest : List ℕ) → drop k text ≡ c ∷ rest
+    → word_before text (suc k) ≡ next (word_before text k) (after_word text k) c rest
 before-is text k c rest d =
     map-cond (word_at text) (begins_word text k) k (last_place (begins_word text) k)
-    ∙ ap (λ b. cond b (Some (word_at text k)) (word_before text k)) (ap (λ n. is_ascii_alphanumeric n && not (after_word text k)) (stands text k c rest d))
+    ∙ ap (λ b. cond b (Some (word_at text k)) (word_before text k))
+    (ap (λ n. is_ascii_alphanumeric n && not (after_word text k)) (stands text k c rest d))
     ∙ ap (λ (t : List ℕ). cond (begins (after_word text k) c) (Some (first_word t)) (word_before text k)) d
 
 abbrev here : List ℕ → ℕ → List ℕ → Bool
 here text k rest = scan (word_before text k) (after_word text k) rest
 
-step-is : (text : List ℕ) (k c : ℕ) (rest : List ℕ) → drop k text ≡ c ∷ rest → here text k (c ∷ rest) ≡ (is_clear_at text k && here text (suc k) rest)
+step-is : (text : List ℕ) (k c : ℕ) (rest : List ℕ) → drop k text ≡ c ∷ rest
+    → here text k (c ∷ rest) ≡ (is_clear_at text k && here text (suc k) rest)
 step-is text k c rest d =
     ap₂ (λ (a b : Bool). a && b) (sym (clear-is text k c rest d))
-    (ap₂ (λ (o : Option (List ℕ)) (b : Bool). scan o b rest) (sym (before-is text k c rest d)) (sym (ap is_ascii_alphanumeric (stands text k c rest d))))
+    (ap₂ (λ (o : Option (List ℕ)) (b : Bool). scan o b rest) (sym (before-is text k c rest d))
+    (sym (ap is_ascii_alphanumeric (stands text k c rest d))))
 
 -- no place fails
 or-none : (o : Option ℕ) (b : Bool) (n : ℕ) → option_or o (cond b None (Some n)) ≡ None → (o ≡ None) × (b ≡ true)
@@ -87,14 +94,17 @@ past : (text : List ℕ) (k : ℕ) → drop k text ≡ [] → k ≤ length text 
 past text k d l = omega (arith, ap length d, length-drop k text)
 
 -- the text is clear from this place on, and `ago` is its last word: as places and as a scan
-to-scan : (text : List ℕ) (k : ℕ) (rest : List ℕ) → drop k text ≡ rest → k ≤ length text → first_failure (is_clear_at text) (length text) ≡ None → ends_in_ago (word_before text (length text)) ≡ true → here text k rest ≡ true
+to-scan : (text : List ℕ) (k : ℕ) (rest : List ℕ) → drop k text ≡ rest → k ≤ length text
+    → first_failure (is_clear_at text) (length text) ≡ None → ends_in_ago (word_before text (length text)) ≡ true → here text k rest ≡ true
 to-scan text k [] d l none ago = ap (λ n. ends_in_ago (word_before text n)) (past text k d l) ∙ ago
 to-scan text k (c ∷ rest) d l none ago =
     let within = drop-within text k c rest d in
     step-is text k c rest d
-    ∙ rw (each (is_clear_at text) (length text) k none within) (to-scan text (suc k) rest (drop-next text k c rest d) (omega (arith, within)) none ago)
+    ∙ rw (each (is_clear_at text) (length text) k none within)
+    (to-scan text (suc k) rest (drop-next text k c rest d) (omega (arith, within)) none ago)
 
-from-scan : (text : List ℕ) (k : ℕ) (rest : List ℕ) → drop k text ≡ rest → k ≤ length text → first_failure (is_clear_at text) k ≡ None → here text k rest ≡ true
+from-scan : (text : List ℕ) (k : ℕ) (rest : List ℕ) → drop k text ≡ rest → k ≤ length text → first_failure (is_clear_at text) k ≡ None
+    → here text k rest ≡ true
     → (first_failure (is_clear_at text) (length text) ≡ None) × (ends_in_ago (word_before text (length text)) ≡ true)
 from-scan text k [] d l none h = grind (arith, past)
 from-scan text k (c ∷ rest) d l none h =

@@ -1,7 +1,8 @@
 -- A word names a unit where it is a unit's name, alone or with one `s` after it.
 use Rattle.std.proofs.lemmas.Bool.Decides.{nat_tests}
 use Rattle.std.proofs.lemmas.Grind.{common_steps}
-use Rattle.std.proofs.Common.{◌≡◌, ◌∙◌, ◌⊎◌, inl, inr, ℕ, ◌-◌, Bool, true, List, [], ◌∷◌, ◌++◌, length, map, take, get_or, refl, ap, arith, Some}
+use Rattle.std.proofs.Common.{◌≡◌, ◌∙◌, ◌⊎◌, inl, inr, ℕ, ◌-◌, Bool, true, List, [], ◌∷◌, ◌++◌, length, map, take, get_or, refl, ap, arith}
+use Rattle.std.proofs.Common.{Some}
 use Rattle.std.proofs.lemmas.Bool.{or_cases, eqb-true as is-same}
 use Rattle.std.proofs.lemmas.List.{length-append}
 use Rattle.std.proofs.Math.Seq.{take-append_seam, get_or-append_seam}
@@ -20,7 +21,9 @@ last-split : (c : ℕ) (t : List ℕ) → c ∷ t ≡ take (length t) (c ∷ t) 
 last-split c [] = refl
 last-split c (d ∷ t) = ap (λ (xs : List ℕ). c ∷ xs) (last-split d t)
 
-split-at-end : (word : List ℕ) (b : Bool) → (get_or word (length word - 1) 0 == small_s || get_or word (length word - 1) 0 == letter_s) ≡ true → word ≡ take (length word - 1) word ++ (get_or word (length word - 1) 0 ∷ [])
+split-at-end : (word : List ℕ) (b : Bool)
+    → (get_or word (length word - 1) 0 == small_s || get_or word (length word - 1) 0 == letter_s) ≡ true
+    → word ≡ take (length word - 1) word ++ (get_or word (length word - 1) 0 ∷ [])
 split-at-end [] b h = absurd cc
 split-at-end (c ∷ t) b h = grind (arith, nat_tests, common_steps, last-split)
 
@@ -37,12 +40,14 @@ names-same : map unit_of (names_of unit_names) ≡ map named_unit (names_of unit
 unfolding unit_of singular named_unit
 names-same = refl
 
-any-same : (word : List ℕ) (names : List (List ℕ)) → map unit_of names ≡ map named_unit names → list_any (is_name word) names ≡ true → unit_of word ≡ named_unit word
+any-same : (word : List ℕ) (names : List (List ℕ)) → map unit_of names ≡ map named_unit names → list_any (is_name word) names ≡ true
+    → unit_of word ≡ named_unit word
 any-same word [] h e = absurd cc
 any-same word (name ∷ names) h e =
     let first : unit_of name ≡ named_unit name = cc in
     let others : map unit_of names ≡ map named_unit names = cc in
-    by-either (or_cases (is_name word name) (list_any (is_name word) names) e) (λ n. same-unit word name n first) (λ m. any-same word names others m)
+    by-either (or_cases (is_name word name) (list_any (is_name word) names) e) (λ n. same-unit word name n first)
+    (λ m. any-same word names others m)
   where
     by-either : {A B C : Type 0} → A ⊎ B → (A → C) → (B → C) → C
     by-either (inl a) f g = f a

@@ -1,5 +1,6 @@
 -- Clocks of Git's own forms are read where they are so written, and nowhere else.
-use Rattle.std.proofs.Common.{◌≡◌, ◌∙◌, ◌≤◌, ◌+◌, ◌-◌, ◌*◌, ℕ, Bool, true, false, cond, List, [], ◌∷◌, refl, ap, ap₂, sym, subst, arith, Some, None, Option, inl, inr, ◌⊎◌}
+use Rattle.std.proofs.Common.{◌≡◌, ◌∙◌, ◌≤◌, ◌+◌, ◌-◌, ◌*◌, ℕ, Bool, true, false, cond, List, [], ◌∷◌, refl, ap, ap₂, sym, subst, arith}
+use Rattle.std.proofs.Common.{Some, None, Option, inl, inr, ◌⊎◌}
 use Rattle.std.proofs.lemmas.Option.{same_Some as same_some}
 use Rattle.std.proofs.lemmas.Bool.Decides.{nat_tests}
 use Rattle.std.specs.Char.{is_ascii}
@@ -9,7 +10,8 @@ use Rattle.std.specs.Str.{trim}
 use Rattle.gix_date.specs.Fields.FieldTexts.{IsPair, IsDigit}
 use Rattle.gix_date.specs.Text.Front.{◌>>=◌}
 use Rattle.gix_date.specs.Fields.Layout.{LocalClock}
-use Rattle.gix_date.specs.Git.Clock.{digits_at_most, clock_of_fields, clock_of_parts, clock_with_colons, clock_without_colons, read_pair_or_end, trimmed_clock, git_clock}
+use Rattle.gix_date.specs.Git.Clock.{digits_at_most, clock_of_fields, clock_of_parts, clock_with_colons, clock_without_colons}
+use Rattle.gix_date.specs.Git.Clock.{read_pair_or_end, trimmed_clock, git_clock}
 use Rattle.gix_date.specs.Git.Grammar.{IsUpTo, AreClockParts, AreClockPairs, IsGitClock}
 use Rattle.gix_date.specs.Text.Characters.{is_colon, is_dot, has_colon}
 use Rattle.gix_date.specs.Text.Numbers.{read_two_digits}
@@ -36,7 +38,8 @@ unfolding digits_at_most
 is-up-to most [] n h = absurd (omega (arith, h.0.0))
 is-up-to most (c ∷ t) n h = grind (arith, all-digits, nat_tests)
 
-fields-are : (h m s : Option ℕ) (c : LocalClock) → clock_of_fields h m s ≡ Some c → (h ≡ Some c.hour) × (m ≡ Some c.minute) × (s ≡ Some c.second)
+fields-are : (h m s : Option ℕ) (c : LocalClock) → clock_of_fields h m s ≡ Some c
+    → (h ≡ Some c.hour) × (m ≡ Some c.minute) × (s ≡ Some c.second)
 fields-are (Some h) (Some m) (Some s) c e = grind (arith, same_some)
 fields-are h m s c e = absurd cc
 
@@ -76,13 +79,15 @@ ended h m s = cond (is_nonempty s.1) None (Some (clock_at h m s.0))
 abbrev with_seconds : ℕ → ℕ × List ℕ → Option LocalClock
 with_seconds h m = read_pair_or_end m.1 >>= ended h m.0
 
-seconds-are : (a b d e : ℕ) (t : List ℕ) (h m : ℕ) (c : LocalClock) → IsPair (a ∷ b ∷ []) h → IsPair (d ∷ e ∷ []) m → with_seconds h (m, t) ≡ Some c → AreClockPairs (a ∷ b ∷ d ∷ e ∷ t) c
+seconds-are : (a b d e : ℕ) (t : List ℕ) (h m : ℕ) (c : LocalClock) → IsPair (a ∷ b ∷ []) h → IsPair (d ∷ e ∷ []) m
+    → with_seconds h (m, t) ≡ Some c → AreClockPairs (a ∷ b ∷ d ∷ e ∷ t) c
 unfolding read_pair_or_end
 seconds-are a b d e [] h m c i j k = subst (AreClockPairs (a ∷ b ∷ d ∷ e ∷ [])) (same_some (clock_at h m 0) c k) (i, j, refl)
 seconds-are a b d e (f ∷ []) h m c i j k = let s = went (read_two_digits (f ∷ [])) (ended h m) c k in absurd (two-of-one f s.0 s.1)
 seconds-are a b d e (f ∷ g ∷ t) h m c i j k = grind (arith, went, two, same_some)
 
-minutes-are : (a b : ℕ) (t : List ℕ) (h : ℕ) (c : LocalClock) → IsPair (a ∷ b ∷ []) h → (read_pair_or_end t >>= with_seconds h) ≡ Some c → AreClockPairs (a ∷ b ∷ t) c
+minutes-are : (a b : ℕ) (t : List ℕ) (h : ℕ) (c : LocalClock) → IsPair (a ∷ b ∷ []) h → (read_pair_or_end t >>= with_seconds h) ≡ Some c
+    → AreClockPairs (a ∷ b ∷ t) c
 unfolding read_pair_or_end
 minutes-are a b [] h c i k = subst (AreClockPairs (a ∷ b ∷ [])) (same_some (clock_at h 0 0) c k) (i, refl, refl)
 minutes-are a b (d ∷ []) h c i k = let m = went (read_two_digits (d ∷ [])) (with_seconds h) c k in absurd (two-of-one d m.0 m.1)
@@ -102,18 +107,26 @@ unfolding clock_without_colons read_pair_or_end
 are-pairs (a ∷ b ∷ []) c p =
     rw (pair-of (a ∷ b ∷ []) c.hour [] p.0) (ap₂ (λ (m s : ℕ). Some (clock_at c.hour m s)) (sym p.1) (sym p.2))
 are-pairs (a ∷ b ∷ d ∷ e ∷ []) c p =
-    rw (pair-of (a ∷ b ∷ []) c.hour (d ∷ e ∷ []) p.0, pair-of (d ∷ e ∷ []) c.minute [] p.1) (ap (λ (s : ℕ). Some (clock_at c.hour c.minute s)) (sym p.2))
+    rw (pair-of (a ∷ b ∷ []) c.hour (d ∷ e ∷ []) p.0, pair-of (d ∷ e ∷ []) c.minute [] p.1)
+    (ap (λ (s : ℕ). Some (clock_at c.hour c.minute s)) (sym p.2))
 are-pairs (a ∷ b ∷ d ∷ e ∷ f ∷ g ∷ []) c p =
-    rw (pair-of (a ∷ b ∷ []) c.hour (d ∷ e ∷ f ∷ g ∷ []) p.0, pair-of (d ∷ e ∷ []) c.minute (f ∷ g ∷ []) p.1, pair-of (f ∷ g ∷ []) c.second [] p.2) refl
+    rw (
+      pair-of (a ∷ b ∷ []) c.hour (d ∷ e ∷ f ∷ g ∷ []) p.0,
+      pair-of (d ∷ e ∷ []) c.minute (f ∷ g ∷ []) p.1,
+      pair-of (f ∷ g ∷ []) c.second [] p.2,
+    ) refl
 are-pairs x c p = absurd p
 
 -- The clock.
 trimmed-is : (x : List ℕ) (c : LocalClock) → trimmed_clock x ≡ Some c
-    → (list_all is_ascii x ≡ true) × (((has_colon x ≡ true) × AreClockParts (slice_split is_colon x) c) ⊎ ((has_colon x ≡ false) × AreClockPairs x c))
+    → (list_all is_ascii x ≡ true)
+    × (((has_colon x ≡ true) × AreClockParts (slice_split is_colon x) c) ⊎ ((has_colon x ≡ false) × AreClockPairs x c))
 unfolding trimmed_clock clock_with_colons
 trimmed-is x c e = grind (arith, parts-are, pairs-are)
 
-is-trimmed : (x : List ℕ) (c : LocalClock) → list_all is_ascii x ≡ true → ((has_colon x ≡ true) × AreClockParts (slice_split is_colon x) c) ⊎ ((has_colon x ≡ false) × AreClockPairs x c) → trimmed_clock x ≡ Some c
+is-trimmed : (x : List ℕ) (c : LocalClock) → list_all is_ascii x ≡ true
+    → ((has_colon x ≡ true) × AreClockParts (slice_split is_colon x) c) ⊎ ((has_colon x ≡ false) × AreClockPairs x c)
+    → trimmed_clock x ≡ Some c
 unfolding trimmed_clock clock_with_colons
 is-trimmed x c a (inl p) = rw (a, p.0) (are-parts (slice_split is_colon x) c p.1)
 is-trimmed x c a (inr p) = rw (a, p.0) (are-pairs x c p.1)

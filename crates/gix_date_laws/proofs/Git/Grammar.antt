@@ -11,7 +11,8 @@ use Rattle.gix_date.specs.Fields.Civil.{civil_instant, read_date}
 use Rattle.gix_date.specs.Text.Front.{skip_char, ◌>>=◌}
 use Rattle.gix_date.specs.Git.Clock.{git_clock}
 use Rattle.gix_date.specs.Git.ClockCut.{clock_cut}
-use Rattle.gix_date.specs.Git.Forms.{git_offset, git_time, git_form, git_front, dotted_front, compact_front, flexible_front, read_marked_date, read_compact_date, time_with_rest, time_of_cut}
+use Rattle.gix_date.specs.Git.Forms.{git_offset, git_time, git_form, git_front, dotted_front, compact_front, flexible_front}
+use Rattle.gix_date.specs.Git.Forms.{read_marked_date, read_compact_date, time_with_rest, time_of_cut}
 use Rattle.gix_date.specs.Git.Grammar.{IsGitDate, IsGitFront, IsGitText}
 use Rattle.gix_date.specs.Text.Characters.{space, dot, minus, letter_t}
 use Rattle.gix_date.specs.Text.Numbers.{read_two_digits}
@@ -29,7 +30,8 @@ use Rattle.gix_date_laws.proofs.Git.Offsets.{offset-is, is-offset}
 abbrev IsTaken : Gap → List ℕ → Type 0
 IsTaken gap mark = (rest : List ℕ) → gap (mark ++ rest) ≡ Some rest
 
-is-date : (gap : Gap) (mark : List ℕ) → IsTaken gap mark → (text : List ℕ) (date : LocalDate) (rest : List ℕ) → IsGitDate mark text date → read_date read_two_digits gap (text ++ rest) ≡ Some (date, rest)
+is-date : (gap : Gap) (mark : List ℕ) → IsTaken gap mark → (text : List ℕ) (date : LocalDate) (rest : List ℕ) → IsGitDate mark text date
+    → read_date read_two_digits gap (text ++ rest) ≡ Some (date, rest)
 is-date gap mark taken text date rest h = grind (arith, joined, year-read, pair-of)
 
 -- The rest.
@@ -37,7 +39,8 @@ is-date gap mark taken text date rest h = grind (arith, joined, year-read, pair-
 abbrev pub IsTextWith : List ℕ → List ℕ → Time → Type 0
 IsTextWith zone text t = (h : IsGitText text t) × (h.zone ≡ zone)
 
-pub text-of : (text day gap rest : List ℕ) (date : LocalDate) (t : Time) → trim text ≡ day ++ (gap ++ rest) → IsGitFront day gap date → time_with_rest date rest ≡ Some t → IsTextWith (clock_cut (trim rest)).1 text t
+pub text-of : (text day gap rest : List ℕ) (date : LocalDate) (t : Time) → trim text ≡ day ++ (gap ++ rest) → IsGitFront day gap date
+    → time_with_rest date rest ≡ Some t → IsTextWith (clock_cut (trim rest)).1 text t
 unfolding time_of_cut
 text-of text day gap rest date t w f e =
     let cut = clock_cut (trim rest) in
@@ -65,7 +68,9 @@ text-of text day gap rest date t w f e =
 
 pub rest-of : (text : List ℕ) (t : Time) (h : IsGitText text t) → time_with_rest h.date h.rest ≡ Some t
 unfolding time_of_cut
-rest-of text t h = rw (means_cut (trim h.rest) h.clock h.zone h.cut, is-clock h.clock h.time h.is_clock, is-offset h.zone t.offset h.is_offset, h.is_instant) refl
+rest-of text t h = rw
+    (means_cut (trim h.rest) h.clock h.zone h.cut, is-clock h.clock h.time h.is_clock, is-offset h.zone t.offset h.is_offset, h.is_instant)
+    refl
 
 pub form-is : (text : List ℕ) (t : Time) → git_form (trim text) ≡ Some t → IsGitText text t
 unfolding git_form
@@ -87,23 +92,29 @@ unfolding skip_char
 pair-digit (a ∷ b ∷ []) t n h = let no : (a == dot) ≡ false = grind (arith, nat_tests, h.0) in rw no refl
 pair-digit x t n h = absurd h
 
-by-dotted : (x day rest : List ℕ) (date : LocalDate) → x ≡ day ++ (space ∷ rest) → IsGitDate (dot ∷ []) day date → git_front x ≡ Some (date, rest)
+by-dotted : (x day rest : List ℕ) (date : LocalDate) → x ≡ day ++ (space ∷ rest) → IsGitDate (dot ∷ []) day date
+    → git_front x ≡ Some (date, rest)
 unfolding git_front dotted_front read_marked_date
 by-dotted x day rest date w d =
-    let read : read_date read_two_digits (skip_char dot) x ≡ Some (date, space ∷ rest) = ap (read_date read_two_digits (skip_char dot)) w ∙ is-date (skip_char dot) (dot ∷ []) (skipped dot) day date (space ∷ rest) d in
+    let read : read_date read_two_digits (skip_char dot) x ≡ Some (date, space ∷ rest) = ap (read_date read_two_digits (skip_char dot)) w
+    ∙ is-date (skip_char dot) (dot ∷ []) (skipped dot) day date (space ∷ rest) d in
     rw (read, skipped space rest) refl
 
 pub no-dotted-by : (x year more : List ℕ) (n : ℕ) → x ≡ year ++ more → IsYear year n → skip_char dot more ≡ None → dotted_front x ≡ None
 unfolding dotted_front read_marked_date
 no-dotted-by x year more n w y e = ap dotted_front w ∙ rw (year-read year more n y, e) refl
 
-by-compact : (x day rest : List ℕ) (date : LocalDate) → x ≡ day ++ (letter_t ∷ rest) → IsGitDate [] day date → git_front x ≡ Some (date, rest)
+by-compact : (x day rest : List ℕ) (date : LocalDate) → x ≡ day ++ (letter_t ∷ rest) → IsGitDate [] day date
+    → git_front x ≡ Some (date, rest)
 unfolding git_front compact_front read_compact_date
 by-compact x day rest date w d =
     let more = d.month ++ (d.day ++ (letter_t ∷ rest)) in
-    let split : x ≡ d.year ++ more = w ∙ ap (λ (k : List ℕ). k ++ (letter_t ∷ rest)) d.whole ∙ joined d.year [] d.month d.day (letter_t ∷ rest) in
-    let dotted = no-dotted-by x d.year more date.year split d.is_year (pair-digit d.month (d.day ++ (letter_t ∷ rest)) date.month d.is_month) in
-    let read : read_date read_two_digits (λ (y : List ℕ). Some y) x ≡ Some (date, letter_t ∷ rest) = ap (read_date read_two_digits (λ (y : List ℕ). Some y)) w ∙ is-date (λ (y : List ℕ). Some y) [] kept day date (letter_t ∷ rest) d in
+    let split : x ≡ d.year ++ more = w ∙ ap (λ (k : List ℕ). k ++ (letter_t ∷ rest)) d.whole
+    ∙ joined d.year [] d.month d.day (letter_t ∷ rest) in
+    let dotted =
+    no-dotted-by x d.year more date.year split d.is_year (pair-digit d.month (d.day ++ (letter_t ∷ rest)) date.month d.is_month) in
+    let read : read_date read_two_digits (λ (y : List ℕ). Some y) x ≡ Some (date, letter_t ∷ rest) =
+    ap (read_date read_two_digits (λ (y : List ℕ). Some y)) w ∙ is-date (λ (y : List ℕ). Some y) [] kept day date (letter_t ∷ rest) d in
     rw (dotted, read, skipped letter_t rest) refl
 
 pub no-compact-by : (x year more : List ℕ) (n : ℕ) → x ≡ year ++ (minus ∷ more) → IsYear year n → compact_front x ≡ None
@@ -114,14 +125,16 @@ pub dash-no-dot : (more : List ℕ) → skip_char dot (minus ∷ more) ≡ None
 unfolding skip_char
 dash-no-dot more = refl
 
-by-flexible : (x day left rest : List ℕ) (date : LocalDate) → x ≡ day ++ left → IsGitDate (minus ∷ []) day date → option_or (skip_char letter_t left) (skip_char space left) ≡ Some rest → git_front x ≡ Some (date, rest)
+by-flexible : (x day left rest : List ℕ) (date : LocalDate) → x ≡ day ++ left → IsGitDate (minus ∷ []) day date
+    → option_or (skip_char letter_t left) (skip_char space left) ≡ Some rest → git_front x ≡ Some (date, rest)
 unfolding git_front flexible_front read_marked_date
 by-flexible x day left rest date w d g =
     let more = d.month ++ (minus ∷ (d.day ++ left)) in
     let split : x ≡ d.year ++ (minus ∷ more) = w ∙ ap (λ (k : List ℕ). k ++ left) d.whole ∙ joined d.year (minus ∷ []) d.month d.day left in
     let dotted = no-dotted-by x d.year (minus ∷ more) date.year split d.is_year (dash-no-dot more) in
     let compact = no-compact-by x d.year more date.year split d.is_year in
-    let read : read_date read_two_digits (skip_char minus) x ≡ Some (date, left) = ap (read_date read_two_digits (skip_char minus)) w ∙ is-date (skip_char minus) (minus ∷ []) (skipped minus) day date left d in
+    let read : read_date read_two_digits (skip_char minus) x ≡ Some (date, left) = ap (read_date read_two_digits (skip_char minus)) w
+    ∙ is-date (skip_char minus) (minus ∷ []) (skipped minus) day date left d in
     rw (dotted, compact, read, g) refl
 
 t-gap : (rest : List ℕ) → option_or (skip_char letter_t (letter_t ∷ rest)) (skip_char space (letter_t ∷ rest)) ≡ Some rest
@@ -132,11 +145,14 @@ space-gap : (rest : List ℕ) → option_or (skip_char letter_t (space ∷ rest)
 unfolding skip_char
 space-gap rest = refl
 
-pub front-of : (x day gap rest : List ℕ) (date : LocalDate) → x ≡ day ++ (gap ++ rest) → IsGitFront day gap date → git_front x ≡ Some (date, rest)
+pub front-of : (x day gap rest : List ℕ) (date : LocalDate) → x ≡ day ++ (gap ++ rest) → IsGitFront day gap date
+    → git_front x ≡ Some (date, rest)
 front-of x day gap rest date w (inl f) = by-dotted x day rest date (w ∙ ap (λ (g : List ℕ). day ++ (g ++ rest)) f.1) f.0
 front-of x day gap rest date w (inr (inl f)) = by-compact x day rest date (w ∙ ap (λ (g : List ℕ). day ++ (g ++ rest)) f.1) f.0
-front-of x day gap rest date w (inr (inr (d, inl g))) = by-flexible x day (letter_t ∷ rest) rest date (w ∙ ap (λ (k : List ℕ). day ++ (k ++ rest)) g) d (t-gap rest)
-front-of x day gap rest date w (inr (inr (d, inr g))) = by-flexible x day (space ∷ rest) rest date (w ∙ ap (λ (k : List ℕ). day ++ (k ++ rest)) g) d (space-gap rest)
+front-of x day gap rest date w (inr (inr (d, inl g))) =
+    by-flexible x day (letter_t ∷ rest) rest date (w ∙ ap (λ (k : List ℕ). day ++ (k ++ rest)) g) d (t-gap rest)
+front-of x day gap rest date w (inr (inr (d, inr g))) =
+    by-flexible x day (space ∷ rest) rest date (w ∙ ap (λ (k : List ℕ). day ++ (k ++ rest)) g) d (space-gap rest)
 
 is-form : (text : List ℕ) (t : Time) → IsGitText text t → git_form (trim text) ≡ Some t
 unfolding git_form

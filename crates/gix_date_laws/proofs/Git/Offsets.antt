@@ -1,6 +1,7 @@
 -- Offsets of Git's own forms are read where they are so written, and nowhere else.
 use Rattle.std.proofs.lemmas.Grind.{common_steps}
-use Rattle.std.proofs.Common.{◌≡◌, ◌∙◌, ◌≤◌, ℕ, ℤ, pos, true, false, List, [], ◌∷◌, ◌++◌, length, refl, ap, sym, subst, arith, Some, None, Option, inl, inr, ◌⊎◌}
+use Rattle.std.proofs.Common.{◌≡◌, ◌∙◌, ◌≤◌, ℕ, ℤ, pos, true, false, List, [], ◌∷◌, ◌++◌, length, refl, ap, sym, subst, arith, Some, None}
+use Rattle.std.proofs.Common.{Option, inl, inr, ◌⊎◌}
 use Rattle.std.proofs.lemmas.Option.{cond_some as guard, same_Some as same_some}
 use Rattle.std.proofs.lemmas.Bool.{and_parts as both}
 use Rattle.std.proofs.lemmas.Bool.Decides.{nat_tests}
@@ -41,20 +42,40 @@ record AreDigitsOf (sign : OffsetSign) (digits : List ℕ) (f : SignedPairs) : T
   none : f.seconds ≡ None
   same : sign ≡ f.sign
 
-fields-by : (sign : OffsetSign) (h m : Option ℕ) (f : SignedPairs) → fields_of sign h m ≡ Some f → (h ≡ Some f.hours) × (m ≡ Some f.minutes) × (f.seconds ≡ None) × (sign ≡ f.sign)
+fields-by : (sign : OffsetSign) (h m : Option ℕ) (f : SignedPairs) → fields_of sign h m ≡ Some f
+    → (h ≡ Some f.hours) × (m ≡ Some f.minutes) × (f.seconds ≡ None) × (sign ≡ f.sign)
 fields-by sign (Some h) (Some m) f e = grind (arith, same_some)
 fields-by sign h m f e = absurd cc
 
 digits-are : (sign : OffsetSign) (digits : List ℕ) (f : SignedPairs) → offset_of_digits sign digits ≡ Some f → AreDigitsOf sign digits f
 digits-are sign (a ∷ b ∷ []) f e =
     let k = fields-by sign (two_digit_value a b) (Some 0) f e in
-    record { hours = a ∷ b ∷ []; minutes = []; whole = refl; are_hours = pair-is a b f.hours k.0; are_minutes = inr (refl, sym (same_some 0 f.minutes k.1)); none = k.2; same = k.3 }
+    record {
+      hours = a ∷ b ∷ [];
+      minutes = [];
+      whole = refl;
+      are_hours = pair-is a b f.hours k.0;
+      are_minutes =
+          inr (refl, sym (same_some 0 f.minutes k.1));
+      none = k.2;
+      same = k.3;
+    }
 digits-are sign (a ∷ b ∷ c ∷ d ∷ []) f e =
     let k = fields-by sign (two_digit_value a b) (two_digit_value c d) f e in
-    record { hours = a ∷ b ∷ []; minutes = c ∷ d ∷ []; whole = refl; are_hours = pair-is a b f.hours k.0; are_minutes = inl (pair-is c d f.minutes k.1); none = k.2; same = k.3 }
+    record {
+      hours = a ∷ b ∷ [];
+      minutes = c ∷ d ∷ [];
+      whole = refl;
+      are_hours = pair-is a b f.hours k.0;
+      are_minutes =
+          inl (pair-is c d f.minutes k.1);
+      none = k.2;
+      same = k.3;
+    }
 digits-are sign digits f e = absurd cc
 
-are-digits : (hours minutes : List ℕ) (f : SignedPairs) → IsPair hours f.hours → AreMinutes minutes f.minutes → f.seconds ≡ None → offset_of_digits f.sign (hours ++ minutes) ≡ Some f
+are-digits : (hours minutes : List ℕ) (f : SignedPairs) → IsPair hours f.hours → AreMinutes minutes f.minutes → f.seconds ≡ None
+    → offset_of_digits f.sign (hours ++ minutes) ≡ Some f
 are-digits (a ∷ b ∷ []) [] f h (inl m) n = absurd m
 are-digits (a ∷ b ∷ []) [] f h (inr m) n = rw (is-pair a b f.hours h) (rw (sym m.1, sym n) refl)
 are-digits (a ∷ b ∷ []) (c ∷ []) f h (inl m) n = absurd m
@@ -78,7 +99,8 @@ empty (c ∷ x) h = let none : length (c ∷ x) ≡ 0 = grind (arith, nat_tests,
 nonempty : (c : ℕ) (x : List ℕ) → (length (c ∷ x) == 0) ≡ false
 nonempty c x = grind (arith, nat_tests)
 
-signed-is : (text : List ℕ) (n : ℤ) → (read_sign text >>= λ g. offset_of_digits g.0 (without_colons g.1) >>= offset_by is_within_a_day) ≡ Some n → IsSignedOffset text n
+signed-is : (text : List ℕ) (n : ℤ)
+    → (read_sign text >>= λ g. offset_of_digits g.0 (without_colons g.1) >>= offset_by is_within_a_day) ≡ Some n → IsSignedOffset text n
 signed-is text n e =
     let sign = went (read_sign text) (λ g. offset_of_digits g.0 (without_colons g.1) >>= offset_by is_within_a_day) n e in
     let f = went (offset_of_digits sign.0.0 (without_colons sign.0.1)) (λ f. offset_by is_within_a_day f) n sign.2 in
@@ -124,7 +146,13 @@ is-signed text n h =
     let fields : offset_of_digits h.fields.sign (without_colons h.body) ≡ Some h.fields =
     ap (offset_of_digits h.fields.sign) h.digits ∙ are-digits h.hours h.minutes h.fields h.are_hours.0 minutes h.no_seconds in
     ap git_offset h.whole
-    ∙ rw (nonempty h.mark h.body, no-z h.mark h.body h.fields.sign h.is_mark, sign-of h.mark h.fields.sign h.body h.is_mark, fields, is-within h.fields h.are_hours.1 low)
+    ∙ rw (
+      nonempty h.mark h.body,
+      no-z h.mark h.body h.fields.sign h.is_mark,
+      sign-of h.mark h.fields.sign h.body h.is_mark,
+      fields,
+      is-within h.fields h.are_hours.1 low,
+    )
     (ap (λ (k : ℤ). Some k) (sym h.value))
 
 pub offset-is : (text : List ℕ) (n : ℤ) → git_offset text ≡ Some n → IsGitOffset text n

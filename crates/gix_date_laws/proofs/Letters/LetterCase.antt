@@ -43,7 +43,8 @@ named-low : (w : List ℕ) → named_count (low w) ≡ named_count w
 unfolding named_count
 named-low w = grind (arith, like-name, low-twice, number-low)
 
-count-by : (w : List ℕ) (b : Bool) → list_all is_ascii_digit w ≡ b → cond b (int_value (low w)) (named_count (low w)) ≡ cond b (int_value w) (named_count w)
+count-by : (w : List ℕ) (b : Bool) → list_all is_ascii_digit w ≡ b
+    → cond b (int_value (low w)) (named_count (low w)) ≡ cond b (int_value w) (named_count w)
 count-by w true e = ap int_value (digits-stay w e)
 count-by w false e = named-low w
 

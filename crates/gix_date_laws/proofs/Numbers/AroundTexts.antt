@@ -16,13 +16,15 @@ drop-keep c t e = rw e refl
 
 -- what was cut off in front is not there to be cut off again
 skip-by : (c : ℕ) (cs : List ℕ) (b : Bool) → is_whitespace c ≡ b
-    → skip_leading_whitespace (drop_trailing_whitespace (skip_leading_whitespace cs)) ≡ drop_trailing_whitespace (skip_leading_whitespace cs)
+    → skip_leading_whitespace (drop_trailing_whitespace (skip_leading_whitespace cs))
+    ≡ drop_trailing_whitespace (skip_leading_whitespace cs)
     → skip_leading_whitespace (drop_trailing_whitespace (cond b (skip_leading_whitespace cs) (c ∷ cs)))
     ≡ drop_trailing_whitespace (cond b (skip_leading_whitespace cs) (c ∷ cs))
 skip-by c cs true e h = h
 skip-by c cs false e h = grind (arith, drop-keep, skip-keep)
 
-skip-twice : (cs : List ℕ) → skip_leading_whitespace (drop_trailing_whitespace (skip_leading_whitespace cs)) ≡ drop_trailing_whitespace (skip_leading_whitespace cs)
+skip-twice : (cs : List ℕ) → skip_leading_whitespace (drop_trailing_whitespace (skip_leading_whitespace cs))
+    ≡ drop_trailing_whitespace (skip_leading_whitespace cs)
 skip-twice [] = refl
 skip-twice (c ∷ cs) = skip-by c cs (is_whitespace c) refl (skip-twice cs)
 

@@ -8,7 +8,8 @@ use Rattle.gix_date.specs.Text.Numbers.{int_value, read_two_digits}
 use Rattle.gix_date.proofs.Text.Ints.{own, int_value_from}
 use Rattle.gix_date.proofs.Families.Apart.{digit-no-minus as not-minus, digit-no-plus as not-plus}
 
-pub bare_int : (digits : List ℕ) (number : ℕ) (n : ℤ) → AreDigits digits number → n ≡ pos number → FitsSigned w64 n → int_value digits ≡ Some n
+pub bare_int : (digits : List ℕ) (number : ℕ) (n : ℤ) → AreDigits digits number → n ≡ pos number → FitsSigned w64 n
+    → int_value digits ≡ Some n
 bare_int [] number n a v f = absurd (omega (arith, a.0))
 bare_int (c ∷ t) number n a v f = grind (arith, both, not-minus, not-plus, int_value_from, own)
 

@@ -7,11 +7,14 @@ use Rattle.std.specs.Option.{option_or}
 use Rattle.std.specs.Prelude.{◌==◌, not}
 use Rattle.gix_date.specs.Families.Answer.{FamilyAnswer, Absolute, Relative}
 use Rattle.gix_date.specs.Families.Epoch.{at_time, epoch_time}
-use Rattle.gix_date.specs.Families.Order.{Family, AtText, Short, Rfc2822, Iso8601, Iso8601Strict, Gitoxide, Default, BareEpoch, GitForm, RelativeText, RawText, families_before_git, family_answer, first_answer_of, first_family_by}
+use Rattle.gix_date.specs.Families.Order.{Family, AtText, Short, Rfc2822, Iso8601, Iso8601Strict, Gitoxide, Default, BareEpoch, GitForm}
+use Rattle.gix_date.specs.Families.Order.{RelativeText, RawText, families_before_git, family_answer, first_answer_of, first_family_by}
 use Rattle.gix_date.specs.Families.Laws.{Holds, overlap}
 use Rattle.gix_date.specs.Text.Front.{◌>>=◌}
 use Rattle.gix_date.specs.Git.Forms.{git_time}
-use Rattle.gix_date.specs.Families.Patterns.{short_answer, rfc2822_answer, iso8601_answer, iso8601_strict_answer, gitoxide_answer, default_answer, short_layout, rfc2822_layout, iso8601_layout, iso8601_strict_layout, gitoxide_layout, default_layout, time_answer, real_day_answer, date_answer}
+use Rattle.gix_date.specs.Families.Patterns.{short_answer, rfc2822_answer, iso8601_answer, iso8601_strict_answer, gitoxide_answer}
+use Rattle.gix_date.specs.Families.Patterns.{default_answer, short_layout, rfc2822_layout, iso8601_layout, iso8601_strict_layout}
+use Rattle.gix_date.specs.Families.Patterns.{gitoxide_layout, default_layout, time_answer, real_day_answer, date_answer}
 use Rattle.gix_date.specs.Families.Raw.{OffsetRule, raw_time_by}
 use Rattle.gix_date.specs.Relative.Dates.{relative_date, RelativeDate}
 use Rattle.gix_date.specs.Fields.Layout.{LocalTime, Piece, read_pieces, nothing_read, layout_answer}
@@ -24,17 +27,40 @@ pub git-first : (rule : OffsetRule) (text : List ℕ) → IsUtf8 text → family
     → first_family_by rule text ≡ family_answer rule GitForm text
 unfolding first_family_by
 git-first rule text u p q h =
-    let none : (b : Family) → (place GitForm == place b) ≡ false → overlap GitForm b ≡ false → family_answer rule b text ≡ None = λ b d o. are_exclusive rule text u GitForm b (differ GitForm b d) o h in
+    let none : (b : Family) → (place GitForm == place b) ≡ false → overlap GitForm b ≡ false
+    → family_answer rule b text ≡ None = λ b d o. are_exclusive rule text u GitForm b (differ GitForm b d) o h in
     let a = answered rule GitForm text h in
-    rw (none AtText refl refl, none Short refl refl, none Rfc2822 refl refl, p, q, none Gitoxide refl refl, none Default refl refl, none BareEpoch refl refl, a.1) refl
+    rw (
+      none AtText refl refl,
+      none Short refl refl,
+      none Rfc2822 refl refl,
+      p,
+      q,
+      none Gitoxide refl refl,
+      none Default refl refl,
+      none BareEpoch refl refl,
+      a.1,
+    ) refl
 
 pub relative-first : (rule : OffsetRule) (text : List ℕ) → IsUtf8 text → family_answer rule GitForm text ≡ None
     → Holds rule RelativeText text → first_family_by rule text ≡ family_answer rule RelativeText text
 unfolding first_family_by
 relative-first rule text u g h =
-    let none : (b : Family) → (place RelativeText == place b) ≡ false → overlap RelativeText b ≡ false → family_answer rule b text ≡ None = λ b d o. are_exclusive rule text u RelativeText b (differ RelativeText b d) o h in
+    let none : (b : Family) → (place RelativeText == place b) ≡ false → overlap RelativeText b ≡ false
+    → family_answer rule b text ≡ None = λ b d o. are_exclusive rule text u RelativeText b (differ RelativeText b d) o h in
     let a = answered rule RelativeText text h in
-    rw (none AtText refl refl, none Short refl refl, none Rfc2822 refl refl, none Iso8601 refl refl, none Iso8601Strict refl refl, none Gitoxide refl refl, none Default refl refl, none BareEpoch refl refl, g, a.1) refl
+    rw (
+      none AtText refl refl,
+      none Short refl refl,
+      none Rfc2822 refl refl,
+      none Iso8601 refl refl,
+      none Iso8601Strict refl refl,
+      none Gitoxide refl refl,
+      none Default refl refl,
+      none BareEpoch refl refl,
+      g,
+      a.1,
+    ) refl
 
 -- No moment is asked where the first family is not the relative one.
 abbrev IsNotRelative : Option FamilyAnswer → Type 0
@@ -97,7 +123,8 @@ counting-by rule text date (family ∷ front) h e =
     next (counting-by rule text date front p.1) (family_answer rule family text) (is-not-relative rule family text n) e
   where
     next : (IsRelativeAfter rule text date front → relative_date text ≡ Some date) → (found : Option FamilyAnswer) → IsNotRelative found
-        → option_or found (first_answer_of (map (λ other. family_answer rule other text) (front ++ (RelativeText ∷ RawText ∷ [])))) ≡ Some (Relative date)
+        → option_or found (first_answer_of (map (λ other. family_answer rule other text) (front ++ (RelativeText ∷ RawText ∷ []))))
+        ≡ Some (Relative date)
         → relative_date text ≡ Some date
     next more None n e = more e
     next more (Some x) n e = absurd (subst IsNotRelative e n)

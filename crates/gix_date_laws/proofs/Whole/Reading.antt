@@ -24,7 +24,8 @@ use Rattle.gix_date.proofs.Fields.AfterDay.{day_with_instant}
 use Rattle.gix_date.proofs.Fields.FieldsTaken.{went, first-or}
 use Rattle.gix_date_laws.proofs.Shared.Agreement.{comes_first}
 
-pub plain_time : (answer : Option FamilyAnswer) (now : Option Zoned) (t : Time) → CarefulOutcome (First answer) now (Ok t) → ParseNoAllocOutcome answer now (Ok t)
+pub plain_time : (answer : Option FamilyAnswer) (now : Option Zoned) (t : Time) → CarefulOutcome (First answer) now (Ok t)
+    → ParseNoAllocOutcome answer now (Ok t)
 plain_time answer now t (plain, outcome, e) = grind (arith)
 
 -- Dates in which no offset is written.
@@ -37,11 +38,13 @@ git-is : (text : List ℕ) (t : Time) → unzoned_git_time text ≡ Some t → g
 unfolding unzoned_git_time git_time git_form
 git-is text t e = grind (arith, went, unless-some)
 
-short-of : (text : List ℕ) (date : LocalDate) → read_plain_date text ≡ Some (date, []) → short_answer text ≡ answer_after [] real_day_answer date []
+short-of : (text : List ℕ) (date : LocalDate) → read_plain_date text ≡ Some (date, [])
+    → short_answer text ≡ answer_after [] real_day_answer date []
 unfolding short_answer
 short-of text date e = rw e refl
 
-day_of_letters : (text : List ℕ) (date : LocalDate) (rest : List ℕ) (t : Time) → read_plain_date text ≡ Some (date, rest) → is_nonempty rest ≡ false → option_map utc_time (civil_instant date midnight (pos 0)) ≡ Some t
+day_of_letters : (text : List ℕ) (date : LocalDate) (rest : List ℕ) (t : Time) → read_plain_date text ≡ Some (date, rest)
+    → is_nonempty rest ≡ false → option_map utc_time (civil_instant date midnight (pos 0)) ≡ Some t
     → short_answer text ≡ Some (Absolute t)
 day_of_letters text date (c ∷ cs) t e n k = absurd cc
 day_of_letters text date [] t e n k = grind (arith, short-of, day_with_instant, same_some)
@@ -50,7 +53,8 @@ day_is_named : (text : List ℕ) (t : Time) → unzoned_day text ≡ Some t → 
 unfolding unzoned_day
 day_is_named text t e = grind (arith, went, unless-some, day_of_letters)
 
-pub answers : (rule : OffsetRule) (text : List ℕ) (t : Time) → IsUtf8 text → unzoned_time text ≡ Some t → first_family_by rule text ≡ Some (Absolute t)
+pub answers : (rule : OffsetRule) (text : List ℕ) (t : Time) → IsUtf8 text → unzoned_time text ≡ Some t
+    → first_family_by rule text ≡ Some (Absolute t)
 unfolding unzoned_time
 answers rule text t u e =
     let first = comes_first rule text u in
@@ -71,7 +75,8 @@ unfolding unzoned_time
 unzoned-by-git text t u e = by (unzoned_day text) refl
   where
     git : first_family_by is_quarter_offset text ≡ Some (Absolute t)
-    git = let g = git-is text t e in (comes_first is_quarter_offset text u).git (ap (λ o. is_some (option_map Absolute o)) g) ∙ ap (option_map Absolute) g
+    git = let g = git-is text t e in (comes_first is_quarter_offset text u).git (ap (λ o. is_some (option_map Absolute o)) g)
+        ∙ ap (option_map Absolute) g
 
     by : (d : Option Time) → unzoned_day text ≡ d → option_or d (unzoned_git_time text) ≡ Some t
     by None f = e

@@ -1,5 +1,6 @@
 -- What Git writes of a name, a mail and a time.
-use Rattle.std.specs.Prelude.{◌≡◌, ℕ, ◌||◌, ◌==◌, if◌then◌else◌, Bool, true, false, int_lt, List, filter, length, pos, Some, Result, Ok, Err, ok_or, option_map}
+use Rattle.std.specs.Prelude.{◌≡◌, ℕ, ◌||◌, ◌==◌, if◌then◌else◌, Bool, true, false, int_lt, List, filter, length, pos, Some, Result, Ok}
+use Rattle.std.specs.Prelude.{Err, ok_or, option_map}
 use Rattle.std.specs.List.{list_any, list_all}
 use Rattle.gix_date.specs.Header.Text.{header_text}
 use Rattle.gix_date.specs.Devices.StreamState.{StreamState, Takes, TakesProperPrefix, TakesNothing}

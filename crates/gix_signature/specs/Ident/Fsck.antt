@@ -8,7 +8,9 @@ use Rattle.gix_signature.specs.Ident.Bytes.{is_opening, is_closing, is_bracket, 
 use Rattle.gix_signature.specs.Ident.Texts.{from_first, begins_with, ends_with}
 use Rattle.gix_signature.specs.Ident.Times.{c_number, too_many_seconds}
 use Rattle.gix_signature.specs.declared.fsck.FsckId.{FsckId}
-use Rattle.gix_signature.specs.declared.fsck.FsckId.TheVariants.{NulInHeader, MissingNameBeforeEmail, BadName, MissingEmail, MissingSpaceBeforeEmail, BadEmail, MissingSpaceBeforeDate, ZeroPaddedDate, BadDateOverflow, BadDate, BadTimezone}
+use Rattle.gix_signature.specs.declared.fsck.FsckId.TheVariants.{NulInHeader, MissingNameBeforeEmail, BadName, MissingEmail}
+use Rattle.gix_signature.specs.declared.fsck.FsckId.TheVariants.{MissingSpaceBeforeEmail, BadEmail, MissingSpaceBeforeDate, ZeroPaddedDate}
+use Rattle.gix_signature.specs.declared.fsck.FsckId.TheVariants.{BadDateOverflow, BadDate, BadTimezone}
 use Rattle.gix_signature.specs.declared.fsck.FsckFault.{FsckFault}
 
 -- what stands from the first bracket on

@@ -1,5 +1,6 @@
 -- What the laws of identity lines say.
-use Rattle.std.specs.Prelude.{◌≡◌, ℕ, ◌*◌, ◌/◌, true, List, Some, None, if◌then◌else◌, IsSomeAnd, Ok, IfOk, ℤ, pos, neg_ℤ, int_lt, ◌≤ℤ◌, unsigned_abs}
+use Rattle.std.specs.Prelude.{◌≡◌, ℕ, ◌*◌, ◌/◌, true, List, Some, None, if◌then◌else◌, IsSomeAnd, Ok, IfOk, ℤ, pos, neg_ℤ, int_lt, ◌≤ℤ◌}
+use Rattle.std.specs.Prelude.{unsigned_abs}
 use Rattle.gix_date.specs.Fields.ClockNumbers.{seconds_per_minute}
 use Rattle.gix_date.specs.Header.Canonical.{is_canonical_header}
 use Rattle.gix_date.specs.Header.Reading.{header_time}
@@ -15,7 +16,8 @@ use Rattle.gix_signature.specs.Ident.Due.{cleaned, ident_due}
 -- a line that is cut is shown with its mail, and with its name but for blanks at the end
 abbrev pub CutIsShown : List ℕ → Type 0
 CutIsShown line =
-    (p : Parts) → IsCut line p → IsSomeAnd (ident_parts line) (λ (i : IdentText). (i.name ≡ without_end is_blank p.name) × (i.mail ≡ p.mail))
+    (p : Parts) → IsCut line p
+    → IsSomeAnd (ident_parts line) (λ (i : IdentText). (i.name ≡ without_end is_blank p.name) × (i.mail ≡ p.mail))
 
 -- `git fsck` says nothing of a line, and Git shows it with this name and mail, and with a date of this time
 pub record PassesAs (name mail : List ℕ) (t : Time) (line : List ℕ) : Type 0 where

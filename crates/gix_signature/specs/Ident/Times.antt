@@ -1,5 +1,6 @@
 -- The time that Git makes of a date's texts, and numbers as C reads them.
-use Rattle.std.specs.Prelude.{ℕ, ◌+◌, ◌-◌, ◌*◌, ◌/◌, ◌%◌, Bool, ◌||◌, nat_lt, int_lt, if◌then◌else◌, List, drop, take_while, ℤ, pos, negsuc, neg_ℤ, unsigned_abs, Option, Some, None, Result, Ok, Err}
+use Rattle.std.specs.Prelude.{ℕ, ◌+◌, ◌-◌, ◌*◌, ◌/◌, ◌%◌, Bool, ◌||◌, nat_lt, int_lt, if◌then◌else◌, List, drop, take_while, ℤ, pos, negsuc}
+use Rattle.std.specs.Prelude.{neg_ℤ, unsigned_abs, Option, Some, None, Result, Ok, Err}
 use Rattle.std.specs.Char.{is_ascii_digit}
 use Rattle.std.specs.Str.Parse.{digits_value, signed_digits_value}
 use Rattle.gix_date.specs.Text.Front.{ReadFront}
@@ -10,7 +11,7 @@ use Rattle.gix_signature.specs.Ident.Texts.{without_front, begins_with}
 use Rattle.gix_signature.specs.Ident.Parts.{DateText}
 use Rattle.gix_signature.specs.declared.error.IdentFault.{IdentFault}
 use Rattle.gix_signature.specs.declared.error.IdentFault.TheVariants.{OffsetTooWide}
-use Rattle.gix_signature.specs.declared.ident.time.GitTime.{GitTime}
+use Rattle.gix_signature.specs.declared.ident.GitTime.{GitTime}
 
 -- how many seconds Git does not show: 2^63
 abbrev pub too_many_seconds : ℕ
@@ -81,7 +82,10 @@ without_sign text = if begins_with is_sign text then drop 1 text else text
 abbrev pub number_at_front : List ℕ → ReadFront ℕ
 number_at_front text =
     if begins_with is_ascii_digit (without_sign text)
-    then Some (c_value (begins_with is_minus text) (digits_value 10 (take_while is_ascii_digit (without_sign text))), without_front is_ascii_digit (without_sign text))
+    then Some (
+      c_value (begins_with is_minus text) (digits_value 10 (take_while is_ascii_digit (without_sign text))),
+      without_front is_ascii_digit (without_sign text),
+    )
     else None
 
 -- the number that C reads at the front of a text, after white bytes, and what stands after it

@@ -6,7 +6,8 @@ use Rattle.git_date.proofs.Text.Folds.{Left}
 use Rattle.git_date.proofs.approximate.draft_of.Given as goal
 
 abbrev pub invariant-tokens : goal.invariant-tokens
-invariant-tokens l = Left (approximate_step (states_of (zone_of l.moment)) l.today) (draft_of (states_of (zone_of l.moment)) l.today l.text) l.rest l.draft
+invariant-tokens l =
+    Left (approximate_step (states_of (zone_of l.moment)) l.today) (draft_of (states_of (zone_of l.moment)) l.today l.text) l.rest l.draft
 
 abbrev pub decreases-tokens : goal.decreases-tokens
 decreases-tokens l = length l.rest

@@ -1,4 +1,5 @@
-use Rattle.std.proofs.Common.{rules, ◌≡◌, ◌∙◌, suc, ◌+◌, ◌-◌, ◌-ℤ◌, ℕ, ℤ, true, false, Some, refl, sym, subst, ap, arith, FitsSigned, w64, w32}
+use Rattle.std.proofs.Common.{rules, ◌≡◌, ◌∙◌, suc, ◌+◌, ◌-◌, ◌-ℤ◌, ℕ, ℤ, true, false, Some, refl, sym, subst, ap, arith, FitsSigned, w64}
+use Rattle.std.proofs.Common.{w32}
 use Rattle.std.proofs.lemmas.Bool.Decides.{Decides-int_eq}
 use Rattle.std.proofs.lemmas.Int.{to_z-of_z}
 use Rattle.jiff.specs.Words.{plain_zone}
@@ -35,13 +36,15 @@ whole c =
     let zone = states_of (plain_zone c.args.zone) in
     let fits : FitsSigned w32 c.args.guess = search rules in
     let left : suc (most_moves - (c.moves._move + 1)) ≡ most_moves - c.moves._move = omega arith in
-    let kept : searched (most_moves - c.moves._move) zone c.args.asked c.moves.trail ≡ found_offset zone c.args.asked c.args.guess = simp to_z-of_z at c.moves.invariant in
+    let kept : searched (most_moves - c.moves._move) zone c.args.asked c.moves.trail ≡ found_offset zone c.args.asked c.args.guess =
+    simp to_z-of_z at c.moves.invariant in
     ap (λ (n : ℕ). searched n zone c.args.asked c.moves.trail) left ∙ kept
 
 pub returns-in_default-clause-value : goal.returns-in_default-clause-value
 returns-in_default-clause-value c =
     let h = (goal.at.returns-in_default-clause-value c).After-state_at in
-    leads-nowhere (states_of (plain_zone c.args.zone)) c.args.asked c.moves.trail (most_moves - (c.moves._move + 1)) (sym c.in_default.is ∙ said h) ∙ whole h
+    leads-nowhere (states_of (plain_zone c.args.zone)) c.args.asked c.moves.trail (most_moves - (c.moves._move + 1))
+    (sym c.in_default.is ∙ said h) ∙ whole h
 
 pub by_flag-requires-clause-clock : goal.by_flag-requires-clause-clock
 by_flag-requires-clause-clock c =
@@ -50,7 +53,8 @@ by_flag-requires-clause-clock c =
     let there = c.in-Some.there in
     let here_fits : FitsSigned w32 here = search rules in
     let there_fits : FitsSigned w32 there.offset = search rules in
-    let same : there.offset ≡ here = (Decides-int_eq there.offset here).0 (same-bits there.offset here there_fits here_fits c.if-there-trail.true) in
+    let same : there.offset ≡ here =
+    (Decides-int_eq there.offset here).0 (same-bits there.offset here there_fits here_fits c.if-there-trail.true) in
     subst (λ (offset : ℤ). is_instant (c.args.asked.clock -ℤ offset) ≡ true) (sym same)
     (is-instant-there (plain_zone c.args.zone) (c.args.asked.clock -ℤ here) there (sym c.in-Some.is ∙ said h))
 
@@ -67,7 +71,8 @@ returns-then-there-trail-clause-value c =
     let found_fits : FitsSigned w32 c.by_flag.result = search rules in
     simp to_z-of_z
     (ap Some found
-    ∙ leads zone c.args.asked c.moves.trail (most_moves - (c.moves._move + 1)) there true (is_back c.moves.trail c.args.asked.daylight there.daylight) (sym c.in-Some.is ∙ said h) same refl
+    ∙ leads zone c.args.asked c.moves.trail (most_moves - (c.moves._move + 1)) there true
+    (is_back c.moves.trail c.args.asked.daylight there.daylight) (sym c.in-Some.is ∙ said h) same refl
     ∙ whole h)
 
 pub returns-then-is_back-clause-value : goal.returns-then-is_back-clause-value
@@ -79,7 +84,8 @@ returns-then-is_back-clause-value c =
     let there_fits : FitsSigned w32 there.offset = search rules in
     let other = other-bits there.offset here there_fits here_fits c.if-there-trail.false in
     simp to_z-of_z
-    (leads (states_of (plain_zone c.args.zone)) c.args.asked c.moves.trail (most_moves - (c.moves._move + 1)) there false true (sym c.in-Some.is ∙ said h) other
+    (leads (states_of (plain_zone c.args.zone)) c.args.asked c.moves.trail (most_moves - (c.moves._move + 1)) there false true
+    (sym c.in-Some.is ∙ said h) other
     (sym c.is_back.ensures ∙ c.if-is_back.true)
     ∙ whole h)
 
@@ -104,5 +110,6 @@ returns-clause-value c =
     let zone = states_of (plain_zone c.args.zone) in
     let fits : FitsSigned w32 c.args.guess = search rules in
     let ended : c.moves._move ≡ most_moves = omega arith in
-    let kept : searched (most_moves - c.moves._move) zone c.args.asked c.moves.trail ≡ found_offset zone c.args.asked c.args.guess = simp to_z-of_z at c.moves.invariant in
+    let kept : searched (most_moves - c.moves._move) zone c.args.asked c.moves.trail ≡ found_offset zone c.args.asked c.args.guess =
+    simp to_z-of_z at c.moves.invariant in
     no-moves zone c.args.asked c.moves.trail ∙ ap (λ (n : ℕ). searched (most_moves - n) zone c.args.asked c.moves.trail) (sym ended) ∙ kept

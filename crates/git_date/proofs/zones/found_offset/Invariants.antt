@@ -5,4 +5,5 @@ use Rattle.git_date.proofs.zones.found_offset.Given as goal
 
 abbrev pub invariant-moves : goal.invariant-moves
 invariant-moves l =
-    searched (most_moves - l._move) (states_of (plain_zone l.zone)) l.asked l.trail ≡ found_offset (states_of (plain_zone l.zone)) l.asked l.guess
+    searched (most_moves - l._move) (states_of (plain_zone l.zone)) l.asked l.trail
+    ≡ found_offset (states_of (plain_zone l.zone)) l.asked l.guess

@@ -22,9 +22,11 @@ here c =
     let few : steps ≤ flag_steps = omega arith in
     let some : 1 ≤ steps = omega arith in
     let distance_fits : FitsSigned w64 (flag_step *ℤ c.from.result) = omega (arith, signed_arith, from, few) in
-    let there : c.flagged_at.result ≡ flagged_at zone c.args.flag instant (flag_step *ℤ c.from.result) = simp to_z-of_z at c.flagged_at.ensures.value in
+    let there : c.flagged_at.result ≡ flagged_at zone c.args.flag instant (flag_step *ℤ c.from.result) =
+    simp to_z-of_z at c.flagged_at.ensures.value in
     let before : nearest (steps - 1) zone c.args.flag instant ≡ None = simp to_z-of_z at c.steps.invariant in
-    at-step zone c.args.flag instant steps some before ∙ sym (there ∙ ap (λ (steps : ℤ). flagged_at zone c.args.flag instant (flag_step *ℤ steps)) from)
+    at-step zone c.args.flag instant steps some before
+    ∙ sym (there ∙ ap (λ (steps : ℤ). flagged_at zone c.args.flag instant (flag_step *ℤ steps)) from)
 
 pub returns-in-Some-clause-value : goal.returns-in-Some-clause-value
 returns-in-Some-clause-value c =

@@ -36,8 +36,10 @@ returns-clause-value c =
     let is : is_instant s ≡ true = sym test ∙ c.if-not-is_instant.false in
     let at : c.in-Ok-from_second.at.nanosecond ≡ nanos_of_seconds s = simp to_z-of_z at c.in-Ok-from_second.ensures.value in
     let offset : c.seconds-2.result ≡ offset_at zone (nanos_of_seconds s) =
-    c.seconds-2.ensures ∙ ap (λ (o : Offset). o.seconds) c.offset.ensures ∙ offset-told zone c.in-Ok-from_second.at.nanosecond info c.to_offset_info-info.ensures ∙ ap (offset_at zone) at in
+    c.seconds-2.ensures ∙ ap (λ (o : Offset). o.seconds) c.offset.ensures
+    ∙ offset-told zone c.in-Ok-from_second.at.nanosecond info c.to_offset_info-info.ensures ∙ ap (offset_at zone) at in
     let daylight : c.is_dst.result ≡ daylight_at zone (nanos_of_seconds s) =
-    c.is_dst.ensures ∙ ap is_dst c.dst.ensures ∙ daylight-told zone c.in-Ok-from_second.at.nanosecond info c.to_offset_info-info.ensures ∙ ap (daylight_at zone) at in
+    c.is_dst.ensures ∙ ap is_dst c.dst.ensures ∙ daylight-told zone c.in-Ok-from_second.at.nanosecond info c.to_offset_info-info.ensures
+    ∙ ap (daylight_at zone) at in
     simp to_z-of_z (says-there zone s (record { offset = c.seconds-2.result; daylight = c.is_dst.result }) is
     (ap₂ state offset daylight))

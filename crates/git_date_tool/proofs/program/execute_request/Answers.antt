@@ -11,4 +11,10 @@ returns-in-Ok-query_of g c = inl (c.in-Ok-query_of.query, c.in-Ok-query_of.ensur
 pub returns-in-Err : goal.returns-in-Err
 unfolding EndsRequest
 returns-in-Err g c =
-    inr (refl, refl, refl, starts-not (request_view c.args.request) c.zone_text-text.result c.in-Err.why c.no_zone.result c.zone_text-text.ensures c.in-Err.ensures c.no_zone.ensures)
+    inr (
+      refl,
+      refl,
+      refl,
+      starts-not (request_view c.args.request) c.zone_text-text.result c.in-Err.why c.no_zone.result
+          c.zone_text-text.ensures c.in-Err.ensures c.no_zone.ensures,
+    )

@@ -5,7 +5,7 @@ ghost use Rattle.std.specs.List.{list_all, before_first};
 ghost use Rattle.gix_date.specs as Spec;
 ghost use Rattle.jiff.specs.Words.{IsOffsetSeconds};
 
-use crate::civil::ClockFields;
+use crate::clock::ClockFields;
 use crate::parsing::fields::{has_colon, trimmed};
 use crate::parsing::numbers::{are_digits, parse_two_digits, read_two_digits};
 use crate::parsing::offset::{OffsetFields, Sign, read_sign};

@@ -3,7 +3,7 @@ ghost use Rattle.std.specs.Prelude.{◌≡◌, ◌<◌, IfSome, [], ◌∷◌, t
 ghost use Rattle.std.specs.List.{prefix_len};
 ghost use Rattle.gix_date.specs as Spec;
 
-use crate::civil::{ClockFields, DateFields};
+use crate::clock::{ClockFields, DateFields};
 use crate::names::{month_told, weekday_told};
 use crate::parsing::fields::{read_colon_clock, read_marked_date, skip_char};
 use crate::parsing::numbers::{read_field, read_year};

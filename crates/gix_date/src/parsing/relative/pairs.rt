@@ -81,7 +81,8 @@ pub(crate) struct Pair {
 /// The first pair of a text, and the text after it. Skips words that are no count, and a last count without a period.
 pub(crate) fn next_pair(text: &str) -> Option<(Pair, &str)>
     ensures pairs { MatchOption result (Spec.pairs_read (Spec.relative_words text.now) ≡ [])
-        (λ found. Spec.pairs_read (Spec.relative_words text.now) ≡ Spec.pair_of found.0 ∷ Spec.pairs_read (Spec.relative_words found.1.now)) }
+        (λ found. Spec.pairs_read (Spec.relative_words text.now)
+        ≡ Spec.pair_of found.0 ∷ Spec.pairs_read (Spec.relative_words found.1.now)) }
     ensures shorter { IfSome result (λ found. length found.1.now < length text.now) }
 {
     let mut rest = text;

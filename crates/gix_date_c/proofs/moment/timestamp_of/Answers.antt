@@ -19,7 +19,8 @@ instant-from : (i : CInstant) → IsTimestampParts i.seconds i.nanoseconds → h
 instant-from i (seconds, (low, high), total) =
     join (is_instant i.seconds && is_part i.nanoseconds) (le_z (nanos_of_seconds first_second) (nanos_in i))
     (join (is_instant i.seconds) (is_part i.nanoseconds) (instant_from i.seconds seconds) (join _ _ (z_holds _ _ low) (z_holds _ _ high)))
-    (let start : nanos_of_seconds first_second ≤ℤ nanos_in i = omega (arith, signed_arith, total.0) in z_holds (nanos_of_seconds first_second) (nanos_in i) start)
+    (let start : nanos_of_seconds first_second ≤ℤ nanos_in i = omega (arith, signed_arith, total.0) in
+    z_holds (nanos_of_seconds first_second) (nanos_in i) start)
 
 instant-parts : (i : CInstant) → has_instant i ≡ true → IsTimestampParts i.seconds i.nanoseconds
 instant-parts i h =
@@ -36,7 +37,8 @@ there-by : (has : Bool) (n : ℤ) → has ≡ true → (let r : Result ℤ Statu
 there-by true n h = refl
 there-by false n h = absurd cc
 
-none-by : (has : Bool) (n : ℤ) → (has ≡ true → ⊥) → (let r : Result ℤ Status = Err InvalidInstant in r) ≡ cond has (Ok n) (Err InvalidInstant)
+none-by : (has : Bool) (n : ℤ) → (has ≡ true → ⊥)
+    → (let r : Result ℤ Status = Err InvalidInstant in r) ≡ cond has (Ok n) (Err InvalidInstant)
 none-by true n h = absurd (h refl)
 none-by false n h = refl
 

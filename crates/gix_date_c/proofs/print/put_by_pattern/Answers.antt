@@ -16,9 +16,14 @@ returns-in-Some c =
     let text = c.as_str.result.now in
     let is_text : IsUtf8 text = search rules in
     let is_some : c.format_by_pattern_to_buf-printed.result ≡ Some c.in-Some.text = c.in-Some.is in
-    let of_printed = subst (λ o. IfSome o (λ text. IsPatternText c.load_time-time.result c.in-Ok.pattern.now text.bytes)) is_some c.format_by_pattern_to_buf-printed.ensures.text in
+    let of_printed = subst (λ o. IfSome o (λ text. IsPatternText c.load_time-time.result c.in-Ok.pattern.now text.bytes)) is_some
+    c.format_by_pattern_to_buf-printed.ensures.text in
     let of_time = subst (λ (t : Time). IsPatternText t c.in-Ok.pattern.now c.in-Some.text.bytes) c.load_time-time.ensures of_printed in
     let of_pattern = subst (λ (p : List ℕ). IsPatternText t p c.in-Some.text.bytes) c.in-Ok.ensures.0 of_time in
     let is = subst (λ (text : List ℕ). IsPatternText t pattern text) (sym c.as_str.ensures.value) of_pattern in
-    let printed = text-printed (PrintsPatternSo c.args.or_unix t pattern) c.args.alloc text c.as_str.ensures.fits is_text (λ s bytes. pattern-prints c.args.or_unix t pattern text s is bytes) in
-    (Ok text, text-by_pattern (PrintsPatternSo c.args.or_unix t pattern) _ (Ok text) c.in-Ok.ensures.1 printed, c.store_text-in-Some.ensures)
+    let printed = text-printed (PrintsPatternSo c.args.or_unix t pattern) c.args.alloc text c.as_str.ensures.fits is_text
+    (λ s bytes. pattern-prints c.args.or_unix t pattern text s is bytes) in (
+      Ok text,
+      text-by_pattern (PrintsPatternSo c.args.or_unix t pattern) _ (Ok text) c.in-Ok.ensures.1 printed,
+      c.store_text-in-Some.ensures,
+    )

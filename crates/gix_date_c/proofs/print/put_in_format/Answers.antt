@@ -13,8 +13,10 @@ returns-in-Some c =
     let text = c.as_str.result.now in
     let is_text : IsUtf8 text = search rules in
     let is_some : c.format_to_buf-printed.result ≡ Some c.in-Some.text = c.in-Some.is in
-    let of_printed = subst (λ o. IfSome o (λ text. IsTextOf c.load_time.result format text.bytes)) is_some c.format_to_buf-printed.ensures.text in
+    let of_printed =
+    subst (λ o. IfSome o (λ text. IsTextOf c.load_time.result format text.bytes)) is_some c.format_to_buf-printed.ensures.text in
     let of_time = subst (λ (t : Time). IsTextOf t format c.in-Some.text.bytes) c.load_time.ensures of_printed in
     let is = subst (λ (text : List ℕ). IsTextOf t format text) (sym c.as_str.ensures.value) of_time in
-    let printed = text-printed (PrintsSo c.args.or_unix t format) c.args.alloc text c.as_str.ensures.fits is_text (λ s bytes. text-prints c.args.or_unix t format text s is bytes) in
+    let printed = text-printed (PrintsSo c.args.or_unix t format) c.args.alloc text c.as_str.ensures.fits is_text
+    (λ s bytes. text-prints c.args.or_unix t format text s is bytes) in
     (Ok text, printed, c.store_text.ensures)

@@ -27,9 +27,12 @@ loop-byte-preserved c =
     elim c.if-is_kept.branch [
       | then-is_kept w ↦
           rw (w.place-is, w.out-is)
-          (step-yes is_kept part old cur w.put_bytes_at-place.new.out c.args.at c.loop-byte.place w.put_bytes_at-place.result i within inside
-          (sym c.is_kept.ensures ∙ w.if-is_kept.true) c.loop-byte.invariant.0 c.loop-byte.invariant.1 w.put_bytes_at-place.ensures.after w.put_bytes_at-place.ensures.bytes)
+          (step-yes is_kept part old cur w.put_bytes_at-place.new.out c.args.at c.loop-byte.place w.put_bytes_at-place.result i within
+          inside
+          (sym c.is_kept.ensures ∙ w.if-is_kept.true) c.loop-byte.invariant.0 c.loop-byte.invariant.1 w.put_bytes_at-place.ensures.after
+          w.put_bytes_at-place.ensures.bytes)
       | else-is_kept w ↦
           rw (w.place-is, w.out-is)
-          (step-no is_kept part old cur c.args.at c.loop-byte.place i inside (sym c.is_kept.ensures ∙ w.if-is_kept.false) c.loop-byte.invariant.0 c.loop-byte.invariant.1)
+          (step-no is_kept part old cur c.args.at c.loop-byte.place i inside (sym c.is_kept.ensures ∙ w.if-is_kept.false)
+          c.loop-byte.invariant.0 c.loop-byte.invariant.1)
     ]

@@ -38,14 +38,16 @@ refused z (Ok a) range = absurd range
 refused z (Err e) range = range
 
 -- what a call comes to that asks for the day before, by the law
-day-back : (z : Zoned) (uncopied : Result Time ParseError) (r : Result Time Error) → NamesInstant (codes "yesterday") z (zoned_nanos z -ℤ nanos_of_seconds (pos 86_400))
+day-back : (z : Zoned) (uncopied : Result Time ParseError) (r : Result Time Error)
+    → NamesInstant (codes "yesterday") z (zoned_nanos z -ℤ nanos_of_seconds (pos 86_400))
     → RelativeOutcome (MinusSeconds (pos 86_400)) (Some z) uncopied → WithCopy (codes "yesterday") uncopied r → IsDayBefore z r
 day-back z (Ok a) r law named same =
     let date : MinusSeconds (pos 86_400) ≡ law.0 = same_some (MinusSeconds (pos 86_400)) law.0 (sym yesterday-date ∙ law.1) in
     let told = (law.2 a).0 (subst (λ (d : RelativeDate). RelativeOutcome d (Some z) (Ok a)) date named) in
     let is : IsDayBefore z (Ok a) = told.0 in
     subst (IsDayBefore z) (sym same) is
-day-back z (Err e) r law (range, none) copied = refused z r (subst (λ (q : ParseError). WithCopy (codes "yesterday") (Err q) r) range copied)
+day-back z (Err e) r law (range, none) copied =
+    refused z r (subst (λ (q : ParseError). WithCopy (codes "yesterday") (Err q) r) range copied)
 
 pub returns : goal.returns
 returns c =

@@ -7,7 +7,8 @@ use Rattle.gix_date_callers.specs.Authored.{IsAuthored}
 use Rattle.gix_date_callers.proofs.signature_caller.author_time.Goals as goal
 
 -- the one cut of the line says no time
-no-time : (r : Option Time) (line author : List ℕ) (s : Parts) → r ≡ header_time s.time → line ≡ codes "author " ++ author → IsCut author s → OneCut author
+no-time : (r : Option Time) (line author : List ℕ) (s : Parts) → r ≡ header_time s.time → line ≡ codes "author " ++ author → IsCut author s
+    → OneCut author
     → IfNone r ((p : Parts) → IsAuthored line p → header_time p.time ≡ None)
 no-time (Some t) line author s e whole cut one = tt
 no-time None line author s e whole cut one = λ p a.
@@ -19,4 +20,5 @@ pub returns-clause-none : goal.returns-clause-none
 returns-clause-none c =
     let author = c.in_ok-author.author.now in
     let whole : c.args.line.now ≡ codes "author " ++ author = search rules in
-    no-time c.time_of.result c.args.line.now author (parts_of c.in_ok-from_line.field-0) c.time_of.ensures whole c.in_ok-from_line.ensures c.one_cut.ensures
+    no-time c.time_of.result c.args.line.now author (parts_of c.in_ok-from_line.field-0) c.time_of.ensures whole c.in_ok-from_line.ensures
+    c.one_cut.ensures

@@ -12,12 +12,19 @@ returns-in-len7-up c =
     let seconds = c.in_ok-seconds.seconds.now in
     let rest = c.in_ok-seconds.rest.now in
     let cut = c.in_ok-seconds.ensures in
-    let whole : take (length rest - 7) (drop 7 rest) ≡ drop 7 rest = take_all (length rest - 7) (drop 7 rest) (omega (arith, length-drop 7 rest)) in
+    let whole : take (length rest - 7) (drop 7 rest) ≡ drop 7 rest =
+    take_all (length rest - 7) (drop 7 rest) (omega (arith, length-drop 7 rest)) in
     let end : get_or rest 6 0 ≡ newline = c.if-end-eq10.true in
-    let parts : rest ≡ get_or rest 0 0 ∷ get_or rest 1 0 ∷ get_or rest 2 0 ∷ get_or rest 3 0 ∷ get_or rest 4 0 ∷ get_or rest 5 0 ∷ newline ∷ drop 7 rest =
-    subst (λ n. rest ≡ get_or rest 0 0 ∷ get_or rest 1 0 ∷ get_or rest 2 0 ∷ get_or rest 3 0 ∷ get_or rest 4 0 ∷ get_or rest 5 0 ∷ n ∷ drop 7 rest) end (seven rest c.in-len7-up.len_at_least) in
-    subst (λ ds. BeginsWithUnknown bytes ds (take (length rest - 7) (drop 7 rest))) (sym c.from_utf8_unchecked.ensures) (subst (BeginsWithUnknown bytes seconds) (sym whole)
-    (zero-header bytes seconds (drop 7 rest) _ _ _ _ _ _ (cut.0 ∙ ap (λ xs. seconds ++ xs) parts) cut.1 cut.2 (c.is_unknown_offset.ensures c.if-is_unknown_offset.true)))
+    let parts : rest ≡ get_or rest 0 0 ∷ get_or rest 1 0 ∷ get_or rest 2 0 ∷ get_or rest 3 0 ∷ get_or rest 4 0 ∷ get_or rest 5 0 ∷ newline ∷
+    drop 7 rest =
+    subst (λ n. rest
+    ≡ get_or rest 0 0 ∷ get_or rest 1 0 ∷ get_or rest 2 0 ∷ get_or rest 3 0 ∷ get_or rest 4 0 ∷ get_or rest 5 0 ∷ n ∷ drop 7 rest) end
+    (seven rest c.in-len7-up.len_at_least) in
+    subst (λ ds. BeginsWithUnknown bytes ds (take (length rest - 7) (drop 7 rest))) (sym c.from_utf8_unchecked.ensures)
+    (subst (BeginsWithUnknown bytes seconds) (sym whole)
+    (zero-header bytes seconds (drop 7 rest) _ _ _ _ _ _ (cut.0 ∙ ap (λ xs. seconds ++ xs) parts) cut.1 cut.2
+    (c.is_unknown_offset.ensures c.if-is_unknown_offset.true)))
 
 pub from_utf8_unchecked-requires : goal.from_utf8_unchecked-requires
-from_utf8_unchecked-requires c = IsUtf8-from_ascii c.in_ok-seconds.seconds.now (seconds-ascii c.in_ok-seconds.seconds.now c.in_ok-seconds.ensures.1)
+from_utf8_unchecked-requires c =
+    IsUtf8-from_ascii c.in_ok-seconds.seconds.now (seconds-ascii c.in_ok-seconds.seconds.now c.in_ok-seconds.ensures.1)

@@ -13,7 +13,8 @@ use Rattle.git_date.proofs.approximate.zone.found_at.Goals.{After-from}
 use Rattle.git_date.proofs.approximate.zone.found_at.Goals as goal
 
 -- the instant is near the clock
-near : (c : After-from) → (c.from.result ≡ c.in_ok-guess.guess) × IsBetween (neg_ℤ (pos (10 ^ 15))) (pos (10 ^ 15)) (c.args.local -ℤ c.in_ok-guess.guess)
+near : (c : After-from)
+    → (c.from.result ≡ c.in_ok-guess.guess) × IsBetween (neg_ℤ (pos (10 ^ 15))) (pos (10 ^ 15)) (c.args.local -ℤ c.in_ok-guess.guess)
 near c =
     let fits : FitsSigned w64 c.args.local = search rules in
     let asked : c.before_leap.result ≡ before_leap c.args.leap c.args.local = simp to_z-of_z at c.before_leap.ensures in
@@ -45,11 +46,17 @@ returns-clause-value c =
     let guess_fits : FitsSigned w32 c.in_ok-guess.guess = search rules in
     let from_fits : FitsSigned w64 c.from.result = search rules in
     let instant_fits : FitsSigned w64 (c.args.local -ℤ c.from.result) = left_fits (goal.at.returns-clause-value c).After-from in
-    let there : Some c.in_ok-guess.guess ≡ found_offset (states_of (plain_zone c.time_zone.result)) (record { clock = c.before_leap.result; daylight = Some c.args.last.daylight }) c.args.last.guess =
+    let there : Some c.in_ok-guess.guess ≡ found_offset (states_of (plain_zone c.time_zone.result))
+    (record { clock = c.before_leap.result; daylight = Some c.args.last.daylight }) c.args.last.guess =
     simp to_z-of_z at c.in_ok-guess.ensures.value in
-    let is : Some c.in_ok-guess.guess ≡ found_offset (states_of (zone_of c.args.moment)) (record { clock = before_leap c.args.leap c.args.local; daylight = Some c.args.last.daylight }) c.args.last.guess =
-    subst (λ (s : ℤ). Some c.in_ok-guess.guess ≡ found_offset (states_of (zone_of c.args.moment)) (record { clock = s; daylight = Some c.args.last.daylight }) c.args.last.guess) asked
-    (subst (λ (tz : TimeZone). Some c.in_ok-guess.guess ≡ found_offset (states_of tz) (record { clock = c.before_leap.result; daylight = Some c.args.last.daylight }) c.args.last.guess) c.time_zone.ensures there) in
+    let is : Some c.in_ok-guess.guess ≡ found_offset (states_of (zone_of c.args.moment))
+    (record { clock = before_leap c.args.leap c.args.local; daylight = Some c.args.last.daylight }) c.args.last.guess =
+    subst (λ (s : ℤ). Some c.in_ok-guess.guess
+    ≡ found_offset (states_of (zone_of c.args.moment)) (record { clock = s; daylight = Some c.args.last.daylight }) c.args.last.guess)
+    asked
+    (subst (λ (tz : TimeZone). Some c.in_ok-guess.guess
+    ≡ found_offset (states_of tz) (record { clock = c.before_leap.result; daylight = Some c.args.last.daylight }) c.args.last.guess)
+    c.time_zone.ensures there) in
     simp to_z-of_z
     (ap (found_from c.args.local c.in_ok-guess.guess) h.0
     ∙ found-there (states_of (zone_of c.args.moment)) c.args.last c.args.leap c.args.local c.in_ok-guess.guess is)
@@ -60,5 +67,6 @@ returns-clause-small c =
     let fits : FitsSigned w64 c.args.local = search rules in
     let from_fits : FitsSigned w64 c.from.result = search rules in
     let instant_fits : FitsSigned w64 (c.args.local -ℤ c.from.result) = left_fits (goal.at.returns-clause-small c).After-from in
-    let small : IsBetween (neg_ℤ (pos (10 ^ 15))) (pos (10 ^ 15)) (c.args.local -ℤ c.from.result) = subst (λ (o : ℤ). IsBetween (neg_ℤ (pos (10 ^ 15))) (pos (10 ^ 15)) (c.args.local -ℤ o)) (sym h.0) h.1 in
+    let small : IsBetween (neg_ℤ (pos (10 ^ 15))) (pos (10 ^ 15)) (c.args.local -ℤ c.from.result) =
+    subst (λ (o : ℤ). IsBetween (neg_ℤ (pos (10 ^ 15))) (pos (10 ^ 15)) (c.args.local -ℤ o)) (sym h.0) h.1 in
     simp to_z-of_z small

@@ -18,14 +18,16 @@ shown_there daylight clock = Some (record { clock = clock; daylight = daylight }
 
 -- the zone says what is there, and the clock that it shows fits
 said : (c : After-from)
-    → (Some c.in_ok-there.there ≡ states_of (zone_of c.args.moment) c.args.instant) × (c.from.result ≡ c.in_ok-there.there.offset) × FitsSigned w64 (c.args.instant +ℤ c.from.result)
+    → (Some c.in_ok-there.there ≡ states_of (zone_of c.args.moment) c.args.instant) × (c.from.result ≡ c.in_ok-there.there.offset)
+    × FitsSigned w64 (c.args.instant +ℤ c.from.result)
 said c =
     let s = c.args.instant in
     let there = c.in_ok-there.there in
     let fits : FitsSigned w64 s = search rules in
     let offset_fits : FitsSigned w32 there.offset = search rules in
     let at : Some there ≡ states_of (plain_zone c.time_zone.result) s = simp to_z-of_z at c.in_ok-there.ensures.value in
-    let says : Some there ≡ states_of (zone_of c.args.moment) s = subst (λ (tz : TimeZone). Some there ≡ states_of tz s) c.time_zone.ensures at in
+    let says : Some there ≡ states_of (zone_of c.args.moment) s =
+    subst (λ (tz : TimeZone). Some there ≡ states_of tz s) c.time_zone.ensures at in
     let within = instant_holds s (is-instant-of (zone_of c.args.moment) s there says) in
     let near = c.in_ok-there.ensures.near in
     let from : c.from.result ≡ there.offset = simp to_z-of_z at c.from.ensures in
@@ -43,7 +45,8 @@ returns c =
     let shown : Some c.in_ok-shown.shown ≡ clock_shown_at (s +ℤ c.from.result) = simp to_z-of_z at c.in_ok-shown.ensures in
     let moved = simp to_z-of_z at c.with_offset.ensures in
     ap (shown_there there.daylight) moved
-    ∙ shown-there (states_of (zone_of c.args.moment)) s there (Some c.in_ok-shown.shown) h.0 (shown ∙ ap (λ (o : ℤ). clock_shown_at (s +ℤ o)) h.1)
+    ∙ shown-there (states_of (zone_of c.args.moment)) s there (Some c.in_ok-shown.shown) h.0
+    (shown ∙ ap (λ (o : ℤ). clock_shown_at (s +ℤ o)) h.1)
 
 pub returns-in_err-shown : goal.returns-in_err-shown
 returns-in_err-shown c =

@@ -1,6 +1,7 @@
 use Rattle.std.proofs.Common.{rules, ◌≡◌, ◌∙◌, sym, ap, false, refl}
 use Rattle.git_date.specs.Formats.Format.{asks_seconds}
-use Rattle.git_date.proofs.Formats.Walks.{left-all, left-next, left-fault, left-end, asked, none-more, not-whole, pieces-are, some-left, none-left}
+use Rattle.git_date.proofs.Formats.Walks.{left-all, left-next, left-fault, left-end, asked, none-more, not-whole, pieces-are, some-left}
+use Rattle.git_date.proofs.Formats.Walks.{none-left}
 use Rattle.git_date.proofs.format.walks.asks_seconds.Goals as goal
 
 pub pieces-init : goal.pieces-init

@@ -2,13 +2,15 @@ use Rattle.std.proofs.Common.{rules, ◌≡◌, ◌∙◌, ◌++◌, sym, ap, Li
 use Rattle.git_date.specs.Formats.Format.{pieces_text}
 use Rattle.git_date.specs.Formats.Pieces.{Piece, piece_of}
 use Rattle.git_date.specs.Formats.Shown.{shown_of}
-use Rattle.git_date.proofs.Formats.Walks.{left-all, left-next, left-fault, left-end, not-whole, pieces-are, some-left, none-left, grown-more}
+use Rattle.git_date.proofs.Formats.Walks.{left-all, left-next, left-fault, left-end, not-whole, pieces-are, some-left, none-left}
+use Rattle.git_date.proofs.Formats.Walks.{grown-more}
 use Rattle.git_date.proofs.format.walks.push_pieces.Goals as goal
 
 pub pieces-init : goal.pieces-init
 pieces-init c = (
   search rules,
-  left-all c.args.text.now (λ done. string_bytes c.args.out.now ≡ string_bytes c.args.out.now ++ pieces_text (shown_of c.args.shown.now) done)
+  left-all c.args.text.now
+      (λ done. string_bytes c.args.out.now ≡ string_bytes c.args.out.now ++ pieces_text (shown_of c.args.shown.now) done)
       (sym (append-nil (string_bytes c.args.out.now))),
 )
 

@@ -8,7 +8,8 @@ use Rattle.git_date.proofs.format.walks.push_pieces.Given as goal
 
 abbrev pub invariant-pieces : goal.invariant-pieces
 invariant-pieces l =
-    shadow (Utf8 l.rest) × Left l.text l.rest (λ done. string_bytes l.out ≡ string_bytes l.initial.out ++ pieces_text (shown_of l.shown) done)
+    shadow (Utf8 l.rest)
+    × Left l.text l.rest (λ done. string_bytes l.out ≡ string_bytes l.initial.out ++ pieces_text (shown_of l.shown) done)
 
 abbrev pub decreases-pieces : goal.decreases-pieces
 decreases-pieces l = length l.rest

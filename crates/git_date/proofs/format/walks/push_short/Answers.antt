@@ -9,7 +9,8 @@ use Rattle.git_date.proofs.format.walks.push_short.Goals as goal
 pub pieces-init : goal.pieces-init
 pieces-init g c = (
   search rules,
-  left-all c.args.text.now (λ done. c.args.out.now.bytes ≡ c.args.out.now.bytes ++ pieces_text (shown_of c.args.shown.now) done) (sym (append-nil c.args.out.now.bytes)),
+  left-all c.args.text.now (λ done. c.args.out.now.bytes ≡ c.args.out.now.bytes ++ pieces_text (shown_of c.args.shown.now) done)
+      (sym (append-nil c.args.out.now.bytes)),
 )
 
 pub pieces-preserved : goal.pieces-preserved
@@ -21,7 +22,8 @@ pieces-preserved g c = (
 
 pub returns-clause-whole : goal.returns-clause-whole
 returns-clause-whole g c =
-    λ yes. is-format c.args.text.now _ (left-end c.args.text.now c.pieces.rest.now _ c.pieces.invariant.1 (none-left c.pieces.rest.now c.pieces-test.ensures))
+    λ yes. is-format c.args.text.now _
+    (left-end c.args.text.now c.pieces.rest.now _ c.pieces.invariant.1 (none-left c.pieces.rest.now c.pieces-test.ensures))
 
 pub returns-clause-shown : goal.returns-clause-shown
 returns-clause-shown g c =

@@ -1,4 +1,5 @@
-use Rattle.std.proofs.Common.{◌≡◌, ◌∙◌, ◌+◌, ◌<◌, ℕ, true, List, [], ◌∷◌, ◌++◌, length, take, ap, sym, subst, arith, append-nil, length-append, Option, Some, None, Ok, rules}
+use Rattle.std.proofs.Common.{◌≡◌, ◌∙◌, ◌+◌, ◌<◌, ℕ, true, List, [], ◌∷◌, ◌++◌, length, take, ap, sym, subst, arith, append-nil}
+use Rattle.std.proofs.Common.{length-append, Option, Some, None, Ok, rules}
 use Rattle.std.proofs.Math.Seq.{take-append-add}
 use Rattle.std.proofs.lemmas.List.{take-append-le}
 use Rattle.gix_date.specs.Devices.StreamState.{StreamState, Takes, TakesProperPrefix}
@@ -7,7 +8,8 @@ use Rattle.std.specs.Io.KnownBytes.{Appends}
 use Rattle.git_date.specs.Formats.Format.{piece_text, pieces_text}
 use Rattle.git_date.specs.Formats.Pieces.{Piece, next_piece, is_format, pieces_or_none, piece_of}
 use Rattle.git_date.specs.Formats.Shown.{Shown, shown_of}
-use Rattle.git_date.proofs.Formats.Walks.{Left, left-next, left-more, texts-append, texts-more, left-all, left-fault, left-end, not-whole, pieces-are, some-left, none-left}
+use Rattle.git_date.proofs.Formats.Walks.{Left, left-next, left-more, texts-append, texts-more, left-all, left-fault, left-end, not-whole}
+use Rattle.git_date.proofs.Formats.Walks.{pieces-are, some-left, none-left}
 use Rattle.git_date.proofs.format.walks.put_pieces.Goals as goal
 
 -- What a sink takes of the texts of pieces.
@@ -26,7 +28,8 @@ takes-more shown old mid new done piece text is h k =
     subst (Takes old new) (ap (λ (more : List ℕ). pieces_text shown done ++ more) is ∙ sym (texts-more shown done piece))
     (Appends-append old.bytes mid.bytes new.bytes (pieces_text shown done) text h k)
 
-cut_after : (old mid new : StreamState) (xs ys : List ℕ) → Takes old mid xs → TakesProperPrefix mid new ys → TakesProperPrefix old new (xs ++ ys)
+cut_after : (old mid new : StreamState) (xs ys : List ℕ) → Takes old mid xs → TakesProperPrefix mid new ys
+    → TakesProperPrefix old new (xs ++ ys)
 cut_after old mid new xs ys h k =
     let within = k.1 in (
       length xs + k.0,
@@ -71,7 +74,8 @@ returns-in_err-put_all-clause-cut g c =
     let mid = g.W.Sink.known c.pieces.out in
     let new = g.W.Sink.known c.put_all.new.out in
     let fact : TakesProperPrefix old new (pieces_text (shown_of c.args.shown.now) (pieces_or_none c.args.text.now)) =
-    cut-within c.args.text.now c.pieces.rest.now c.in-Ok.left.now (shown_of c.args.shown.now) old mid new (piece_of c.in-Ok.piece) c.as_bytes.result.now
+    cut-within c.args.text.now c.pieces.rest.now c.in-Ok.left.now (shown_of c.args.shown.now) old mid new (piece_of c.in-Ok.piece)
+    c.as_bytes.result.now
     c.pieces.invariant.1 (some-left c.pieces.rest.now c.pieces-test.ensures) c.in-Ok.ensures.value c.in-Ok.ensures.shorter c.requires
     (c.as_bytes.ensures.value ∙ c.as_str.ensures ∙ c.chunk_of.ensures) c.in_err-put_all.ensures.cut in
     search (rules, fact)

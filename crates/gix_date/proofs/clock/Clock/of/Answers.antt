@@ -49,4 +49,5 @@ returns c =
     let hour = k.hour in
     let minute = k.minute in
     let last = k.second in
-    simp to_z-of_z (clock-by t c.day_and_second-day.result.0 date c.unsigned_abs.result c.day_and_second-day.result.1 c.weekday_of.result c.clock_at.result day at year second weekday hour minute last)
+    simp to_z-of_z (clock-by t c.day_and_second-day.result.0 date c.unsigned_abs.result c.day_and_second-day.result.1 c.weekday_of.result
+    c.clock_at.result day at year second weekday hour minute last)

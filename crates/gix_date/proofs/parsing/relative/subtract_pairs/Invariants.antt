@@ -10,7 +10,8 @@ use Rattle.gix_date.proofs.parsing.relative.subtract_pairs.Given as goal
 abbrev pub invariant-loop-pair : goal.invariant-loop-pair
 invariant-loop-pair l =
     shadow (Utf8 l.rest) × KeepsZone l.start l.moment
-    × Left (plain_zoned l.start).time_zone (pairs_read (relative_words l.rest)) (zoned_nanos l.moment) (pairs_read (relative_words l.text)) (zoned_nanos l.start)
+    × Left (plain_zoned l.start).time_zone (pairs_read (relative_words l.rest)) (zoned_nanos l.moment) (pairs_read (relative_words l.text))
+    (zoned_nanos l.start)
 
 abbrev pub decreases-loop-pair : goal.decreases-loop-pair
 decreases-loop-pair l = length l.rest

@@ -8,7 +8,8 @@ use Rattle.gix_date.proofs.Families.Shapes.{number-first}
 use Rattle.gix_date.proofs.parsing.usual.usual_date.Goals as goal
 
 -- where a condition decides both a time and what is first, that time is first
-time-first : (b : Bool) (t : Time) (time : Option Time) (first : Option FamilyAnswer) → time ≡ cond b (Some t) None → first ≡ cond b (Some (Absolute t)) None
+time-first : (b : Bool) (t : Time) (time : Option Time) (first : Option FamilyAnswer) → time ≡ cond b (Some t) None
+    → first ≡ cond b (Some (Absolute t)) None
     → IfSome time (λ t. first ≡ Some (Absolute t))
 time-first true t time first e f = rw e f
 time-first false t time first e f = rw e tt

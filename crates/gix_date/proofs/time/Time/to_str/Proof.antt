@@ -48,10 +48,13 @@ stayed = (stay_dropped _ yes, (stay_dropped _ no, tt))
 pub to_str_spec : {M : Type 1} → statement M
 to_str_spec 𝓤 𝓛 𝓜 𝓡 wired =
     let c = f.clauses 𝓛 𝓜.mem 𝓡.returns in let W = walk_of 𝓛 f.ended stayed c in
-    proved 𝓛 f.ended stayed c 𝓜 𝓡
-    (Goes-dropped 𝓛 2 (shr_ref_to (0 ∷ []) tt (plain (λ _. Time.the_row))) yes (λ κs x w. refl), (Goes-spent_ref 𝓛 2 (1 ∷ []) tt (plain (λ _. TimeBuf.the_row)), tt))
+    proved 𝓛 f.ended stayed c 𝓜 𝓡 (
+      Goes-dropped 𝓛 2 (shr_ref_to (0 ∷ []) tt (plain (λ _. Time.the_row))) yes (λ κs x w. refl),
+      (Goes-spent_ref 𝓛 2 (1 ∷ []) tt (plain (λ _. TimeBuf.the_row)), tt),
+    )
     f.Key.name code.function (code.unfolded 𝓤 𝓛.H 𝓜 𝓡 wired)
-    (λ κs. (shr_vals, (mut_vals, tt))) (λ κs. (shr_Tells (named 0) κs.0 Time.the_row, (mut_Tells (named 1) κs.1.0 TimeBuf.the_row, tt))) (λ κs qs bounds a _ are.
+    (λ κs. (shr_vals, (mut_vals, tt))) (λ κs. (shr_Tells (named 0) κs.0 Time.the_row, (mut_Tells (named 1) κs.1.0 TimeBuf.the_row, tt)))
+    (λ κs qs bounds a _ are.
     let self = a.0 in let buf = a.1.0 in
     let G = triple_of 𝓛 g.signature (g.spec 𝓛 𝓜.mem 𝓡.returns) in
     let y : W.Ghost = ((κs, qs, bounds, a, (shr_vals self, (mut_vals buf, tt))), tt) in
@@ -60,7 +63,8 @@ to_str_spec 𝓤 𝓛 𝓜 𝓡 wired =
     let R = type_at f.signature.result κs in
     let promises : Res f.signature κs → _ = λ r. (c κs a).ensures tt r (at_exit f.ended κs a (tt, (tt, tt))) in
     let ℓ = named_lft 2 1 tt κs in
-    qed 𝓛 (((‵ (flft κs.0 qs.0) ⊛ ‵ (flft κs.1.0 qs.1.0) ⊛ ‵ ftrue) ⊛ ‵ ((ShrRef (named 0) κs.0 Time.the_row).own_val self (shr_vals self)) ⊛ ‵ ((MutRef (named 1) κs.1.0 TimeBuf.the_row).own_val buf (mut_vals buf)) ⊛ ‵ ftrue) ∷ ‵ ftrue ∷ []) ∵
+    qed 𝓛 (((‵ (flft κs.0 qs.0) ⊛ ‵ (flft κs.1.0 qs.1.0) ⊛ ‵ ftrue) ⊛ ‵ ((ShrRef (named 0) κs.0 Time.the_row).own_val self (shr_vals self))
+    ⊛ ‵ ((MutRef (named 1) κs.1.0 TimeBuf.the_row).own_val buf (mut_vals buf)) ⊛ ‵ ftrue) ∷ ‵ ftrue ∷ []) ∵
     split ! $ move ! (1 ∷ []) $ split ! $ move ! (1 ∷ []) $ split ! $ move ! (3 ∷ []) $ split ! $ move ! (1 ∷ []) $ split ! $
     keep ! (3 ∷ 5 ∷ 2 ∷ 0 ∷ []) $
     -- [the buffer; the time; the token of the time's lifetime; the token of the buffer's]
@@ -72,7 +76,8 @@ to_str_spec 𝓤 𝓛 𝓜 𝓡 wired =
     nothing ! $ move ! (1 ∷ 0 ∷ []) $ use2 𝓛 (raw (G.pre z)) (id⊢ 𝓤 _) $
     calls_at ! (framed 𝓤 𝓛.H 𝓜 (tables 𝓤 𝓛.H 𝓜 𝓡 𝓡.env)) G (met 𝓤 𝓛 𝓜 𝓡 (code.calls-gix_date::parsing::TimeBuf::write_text 𝓡.env wired)) z
     (and_then ! (get ! refl) (and_then ! (get ! refl) (no_more !))) (λ u.
-    use1 𝓛 (later (some (λ (o : Res g.signature z.0.0). ((‵ (flft κs.1.0 qs.1.0) ⊛ ‵ (flft κs.0 qs.0) ⊛ ‵ ftrue) ⊛ ‵ (O.own_val o (u ∷ []))) ⊛
+    use1 𝓛
+    (later (some (λ (o : Res g.signature z.0.0). ((‵ (flft κs.1.0 qs.1.0) ⊛ ‵ (flft κs.0 qs.0) ⊛ ‵ ftrue) ⊛ ‵ (O.own_val o (u ∷ []))) ⊛
     some (λ (ws : Lasts g.ended z.0.0 z.0.3). ‵ (lasts g.ended z.0.0 z.0.3 ws) ⊛ raw (promises (ok_or o OffsetTooWide)))))) (id⊢ 𝓤 _) $
     await ! tt $ pick ! (λ o. split ! $ split ! $ move ! (2 ∷ []) $ pick ! (λ ws. split ! $ drop ! $
     -- [the promises; the tokens; the text, if there is one]
@@ -92,7 +97,8 @@ to_str_spec 𝓤 𝓛 𝓜 𝓡 wired =
     some (λ (ws : Lasts h.ended x.0.0 x.0.3). ‵ (lasts h.ended x.0.0 x.0.3 ws) ⊛ raw (fact 𝓤 (r ≡ ok_or o OffsetTooWide)))))) (id⊢ 𝓤 _) $
     await ! tt $ pick ! (λ r. split ! $ split ! $ move ! (2 ∷ []) $ pick ! (λ ws. split ! $ drop ! $ heard ! _ (λ is_result.
     -- [the token of the buffer's lifetime; the result; the promises; the token of the time's]
-    split ! $ move ! (1 ∷ []) $ drop ! $ rewrite ! 2 (λ (r : Res f.signature κs). raw (promises r)) (sym is_result) refl $ move ! (1 ∷ 2 ∷ 3 ∷ 0 ∷ []) $
+    split ! $ move ! (1 ∷ []) $ drop ! $ rewrite ! 2 (λ (r : Res f.signature κs). raw (promises r)) (sym is_result) refl
+    $ move ! (1 ∷ 2 ∷ 3 ∷ 0 ∷ []) $
     -- [the result; the promises; the token of the time's lifetime; the token of the buffer's]
     peeks ! R (Is R) (shows 𝓛 R) r (v ∷ []) (λ is.
     lands_as ! refl refl (((loose_lawful (Result.the_type (str-field ℓ).row Error.the_row)

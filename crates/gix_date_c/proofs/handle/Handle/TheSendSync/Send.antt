@@ -24,4 +24,5 @@ held_crosses alloc at None = tt
 held_crosses alloc at (Some value) = (lies zone.the_row zone_crosses at value, crossing.frees.frees alloc (raw (lone zone.the_row.mir)) at)
 
 pub send : IsSend the_row
-send = owning_send the_type words_cross (λ h. held_crosses h.alloc h.at h.held) (λ k. quiet (to the_type) ((Struct (shape the_type)).exit k) ((struct_send (shape the_type) words_cross).leaving k))
+send = owning_send the_type words_cross (λ h. held_crosses h.alloc h.at h.held)
+    (λ k. quiet (to the_type) ((Struct (shape the_type)).exit k) ((struct_send (shape the_type) words_cross).leaving k))

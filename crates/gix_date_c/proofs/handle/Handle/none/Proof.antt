@@ -37,7 +37,8 @@ none_spec 𝓤 𝓛 𝓜 𝓡 wired =
     let h : handle.the_row.Denot = record { at = null_ptr; alloc = a.0; held = None } in
     qed 𝓛 (raw (on_entry 𝓛 f.signature κs qs a y.0.4) ∷ raw (emp 𝓤) ∷ []) ∵ drop ! $ drop ! $
     enter ! _ _ _ _ _ $ alloc_all ! (λ l. pass_all ! refl ((tt, ((tt, tt), tt)), tt) $
-    sets ! (agg ! (and_then ! (lit ! tt) (and_then ! (get ! refl) (no_more !)))) refl (tt, (record { fits = lit< tt }, (((tt, tt), tt), tt))) $
+    sets ! (agg ! (and_then ! (lit ! tt) (and_then ! (get ! refl) (no_more !)))) refl
+    (tt, (record { fits = lit< tt }, (((tt, tt), tt), tt))) $
     returns ! (look_at ! 0 refl) $ free_all ! refl $
     suffices ! _ (ends_at 𝓛 f.ended dropped c y (handle_laws.lowered h) h (tt, tt) (tt, tt)) $ says ! refl $
     nothing ! $ use1 𝓛 (‵ (handle.the_row.own_val h (handle_laws.lowered h ∷ []))) (fits 𝓛 h) $

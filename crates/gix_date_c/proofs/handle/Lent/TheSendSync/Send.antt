@@ -20,4 +20,5 @@ shown_crosses κ at None = tt
 shown_crosses κ at (Some value) = ((λ q. tt), seen zone.the_row the_sync at value κ)
 
 pub send : IsSend the_row
-send = owning_send the_type words_cross (λ d. shown_crosses d.life d.at d.held) (λ k. quiet (to the_type) ((Struct (shape the_type)).exit k) ((struct_send (shape the_type) words_cross).leaving k))
+send = owning_send the_type words_cross (λ d. shown_crosses d.life d.at d.held)
+    (λ k. quiet (to the_type) ((Struct (shape the_type)).exit k) ((struct_send (shape the_type) words_cross).leaving k))

@@ -6,7 +6,8 @@ use mir.Val.{Val, vptr}
 use base.Fml.{ftrue, fsep, flft}
 use contract.Monad.{fact}
 use contract.Running.{tables}
-use types.Kit.{‵, raw, ◌⊛◌, later, at_ret, ◌$◌, ◌∵◌, !, qed, move, keep, use1, use2, split, join, fsplit, fjoin, feq_i, await, rewrite, suffices, frame, done}
+use types.Kit.{‵, raw, ◌⊛◌, later, at_ret, ◌$◌, ◌∵◌, !, qed, move, keep, use1, use2, split, join, fsplit, fjoin, feq_i, await, rewrite}
+use types.Kit.{suffices, frame, done}
 use types.Part.{whole, sub, look_in}
 use types.Run.{stop, fld, addr, load, of_opd, first, blocks, exec, returns, enter}
 use types.ByLocal.{alloc_all, pass_all, free_all, look_at, get, through, sets, sets_last, is, env}
@@ -54,12 +55,15 @@ held_spec 𝓤 𝓛 𝓜 𝓡 wired =
     move ! (2 ∷ 1 ∷ []) $ looks ! tt R (opened 𝓛) d b o (λ q vs. move ! (1 ∷ []) $ peeks ! R (Is R) (shows 𝓛 R) d vs (λ shown.
     let ev : vs ≡ lowered d ∷ [] = lowers.val_is d vs shown in
     rewrite ! 1 (λ (ws : List Val). ‵ (cell_at q R.mir ws b o)) ev refl $ first ! $ blocks ! $
-    sets ! (is ! (of_opd ! (load ! (through ! refl (fld ! refl (stop !))) (look_in ! 1 (sub ! 0 refl (whole !))))) (ap ptr_val (at_block d.at inb))) refl (tt, tt) $
+    sets ! (is ! (of_opd ! (load ! (through ! refl (fld ! refl (stop !))) (look_in ! 1 (sub ! 0 refl (whole !)))))
+    (ap ptr_val (at_block d.at inb))) refl (tt, tt) $
     sets ! (of_opd ! (get ! refl)) refl (tt, tt) $
-    sets_last ! (addr ! (through ! refl (stop !))) refl (tt, tt) $ exec ! 𝓣.C 𝓣.Λ (env code.Mir.locals l) code.Mir.t-2 (at_ret _ (W.post y)) $
+    sets_last ! (addr ! (through ! refl (stop !))) refl (tt, tt) $ exec ! 𝓣.C 𝓣.Λ (env code.Mir.locals l) code.Mir.t-2 (at_ret _ (W.post y))
+    $
     rewrite ! 1 (λ (ws : List Val). ‵ (cell_at q R.mir ws b o)) (sym ev) refl $ move ! (1 ∷ 0 ∷ 2 ∷ []) $ shuts ! tt R q d vs b o $
     sets ! (of_opd ! (get ! refl)) refl (tt, tt) $ move ! (0 ∷ 2 ∷ []) $
     returns ! (look_at ! 0 refl) $ free_all ! refl $ keep ! (0 ∷ 1 ∷ []) $
-    suffices ! _ (ends_at 𝓛 f.ended dropped c y (vptr pb po) (record { ref_ptr = (pb, po); now = holds.0 }) (tt, tt) (tt, tt)) $ says ! (sym holds.1) $
+    suffices ! _ (ends_at 𝓛 f.ended dropped c y (vptr pb po) (record { ref_ptr = (pb, po); now = holds.0 }) (tt, tt) (tt, tt))
+    $ says ! (sym holds.1) $
     nothing ! $ move ! (1 ∷ 0 ∷ []) $ join ! $ frame ! $ nothing ! $ nothing ! $ fjoin ! $ frame ! $
     feq_i ! (List Val) (vptr pb po ∷ []) (vptr pb po ∷ []) refl $ fjoin ! $ done !))))))

@@ -43,7 +43,8 @@ returns-in-Err c =
     let short : length line ≤ MAX_LINE_LEN = c.requires.ready.is_short in
     let byte = some_byte part c.is_empty.result c.is_empty.ensures c.if-is_empty.false in
     subst (λ o'. Extends o o' part (Err (Reading errors.Memory))) (ap (with_line o) (sym c.in-Err.ensures.items))
-    (Extends-no_memory part c.requires.ready c.requires.is_line c.in_ok-check_count.ensures.room byte (omega (arith, length-append line part, short)))
+    (Extends-no_memory part c.requires.ready c.requires.is_line c.in_ok-check_count.ensures.room byte
+    (omega (arith, length-append line part, short)))
 
 pub returns : goal.returns
 returns c =

@@ -15,7 +15,8 @@ returns-in-Ok-Some g c =
       front = with_newline found.0.line;
       cut = found.0.whole;
       some = some_line found.0.line;
-      took = TakesIn-whole found.0.line (Ok tt) g.met.S.Server.stays g.met.S.Server.joins none c.requires room found.0.is_line found.0.is_short same found.1;
+      took = TakesIn-whole found.0.line (Ok tt) g.met.S.Server.stays g.met.S.Server.joins none c.requires room found.0.is_line
+          found.0.is_short same found.1;
     }
 
 pub returns-in-Ok-None : goal.returns-in-Ok-None

@@ -20,7 +20,8 @@ end_line-requires-clause-ready g c =
 pub returns-in-Ok : goal.returns-in-Ok
 returns-in-Ok g c =
     let part = c.in-Some.part.now in
-    let last = stage (held_of c.end_line.new.self) (service c.end_line.new.server (g.W.Sink.known c.end_line.new.writer) (g.M.Sink.known c.end_line.new.messages)) in
+    let last = stage (held_of c.end_line.new.self)
+    (service c.end_line.new.server (g.W.Sink.known c.end_line.new.writer) (g.M.Sink.known c.end_line.new.messages)) in
     let same = rw c.in-Ok-None.field-0-is at c.in-Ok-None.ensures in
     record {
       front = with_newline part;
@@ -33,10 +34,13 @@ pub returns-in-Err-end_line : goal.returns-in-Err-end_line
 returns-in-Err-end_line g c =
     let part = c.in-Some.part.now in
     let after = c.in-Some.after.now in
-    let first = stage (held_of c.args.self.now) (service c.args.server.now (g.W.Sink.known c.args.writer.now) (g.M.Sink.known c.args.messages.now)) in
-    let last = stage (held_of c.end_line.new.self) (service c.end_line.new.server (g.W.Sink.known c.end_line.new.writer) (g.M.Sink.known c.end_line.new.messages)) in
+    let first = stage (held_of c.args.self.now)
+    (service c.args.server.now (g.W.Sink.known c.args.writer.now) (g.M.Sink.known c.args.messages.now)) in
+    let last = stage (held_of c.end_line.new.self)
+    (service c.end_line.new.server (g.W.Sink.known c.end_line.new.writer) (g.M.Sink.known c.end_line.new.messages)) in
     let same = rw c.in-Ok-None.field-0-is at c.in-Ok-None.ensures in
     let whole = c.in-Some.ensures.1 ∙ sym (append_assoc part (newline ∷ []) after) in
     let stop = c.in-Err-end_line.stop in
     let took = subst (λ s. TakesIn g.S.Server.serves s last (with_newline part) (Err stop)) same c.in-Err-end_line.ensures in
-    subst (λ bytes. TakesIn g.S.Server.serves first last bytes (Err stop)) (sym whole) (TakesIn-beyond first last (with_newline part) after stop took)
+    subst (λ bytes. TakesIn g.S.Server.serves first last bytes (Err stop)) (sym whole)
+    (TakesIn-beyond first last (with_newline part) after stop took)

@@ -11,7 +11,8 @@ abbrev pub invariant-pieces : goal.invariant-pieces
 invariant-pieces g l =
     let first = service l.initial.server (g.W.Sink.known l.initial.writer) (g.M.Sink.known l.initial.messages) in
     let now = service l.server (g.W.Sink.known l.writer) (g.M.Sink.known l.messages) in
-    HasRead g.S.Server.serves (stage (first_held l.initial.self.most) first) (stage (held_of l.self) now) (change (g.R.Source.known l.initial.reader) (g.R.Source.known l.reader))
+    HasRead g.S.Server.serves (stage (first_held l.initial.self.most) first) (stage (held_of l.self) now)
+    (change (g.R.Source.known l.initial.reader) (g.R.Source.known l.reader))
 
 -- how many bytes may still come within the limits, each newline with its line
 abbrev pub decreases-pieces : goal.decreases-pieces

@@ -7,7 +7,8 @@ use Rattle.gix_date.proofs.Text.LastPlaces.{by_rfind}
 use Rattle.gix_date.proofs.parsing.git.cut.cut_at_space.Goals as goal
 
 pub returns-in_err-place : goal.returns-in_err-place
-returns-in_err-place c = rw c.from_residual.ensures (sym (space_none c.args.text.now (by_rfind c.args.text.now None c.in_err-place.ensures.cases).0))
+returns-in_err-place c =
+    rw c.from_residual.ensures (sym (space_none c.args.text.now (by_rfind c.args.text.now None c.in_err-place.ensures.cases).0))
 
 pub returns-then-place-le5 : goal.returns-then-place-le5
 returns-then-place-le5 c =
@@ -22,12 +23,14 @@ range_from-requires c =
 pub returns-then-not-begins_with_sign : goal.returns-then-not-begins_with_sign
 returns-then-not-begins_with_sign c =
     let last = by_rfind c.args.text.now (Some c.in_ok-place.place) c.in_ok-place.ensures.cases in
-    sym (space_unsigned c.args.text.now c.trimmed-offset.result.now c.in_ok-place.place last.0 (c.trimmed-offset.ensures ∙ ap trim c.range_from.ensures.value) (sym c.begins_with_sign.ensures ∙ c.if-not-begins_with_sign.true))
+    sym (space_unsigned c.args.text.now c.trimmed-offset.result.now c.in_ok-place.place last.0
+    (c.trimmed-offset.ensures ∙ ap trim c.range_from.ensures.value) (sym c.begins_with_sign.ensures ∙ c.if-not-begins_with_sign.true))
 
 pub returns : goal.returns
 returns c =
     let last = by_rfind c.args.text.now (Some c.in_ok-place.place) c.in_ok-place.ensures.cases in
-    sym (space_found c.args.text.now c.trimmed-offset.result.now c.range.result.now c.in_ok-place.place last.0 (c.trimmed-offset.ensures ∙ ap trim c.range_from.ensures.value)
+    sym (space_found c.args.text.now c.trimmed-offset.result.now c.range.result.now c.in_ok-place.place last.0
+    (c.trimmed-offset.ensures ∙ ap trim c.range_from.ensures.value)
     (grind (arith, common_steps, c.range.ensures.value))
     (omega arith)
     (sym c.begins_with_sign.ensures ∙ c.if-not-begins_with_sign.false))

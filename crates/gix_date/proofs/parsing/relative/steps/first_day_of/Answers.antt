@@ -8,9 +8,12 @@ pub returns-in-Ok-new-clause-value : goal.returns-in-Ok-new-clause-value
 returns-in-Ok-new-clause-value c =
     let fn : FitsSigned w64 c.args.month_number = c.ranges.month_number in
     let fq : FitsSigned w64 c.div_euclid.result = omega (arith, signed_arith, c.div_euclid.type_inv) in
-    let fr : FitsSigned w64 c.rem_euclid.result = omega (arith, signed_arith, c.rem_euclid.ensures.lower_bound, c.rem_euclid.ensures.upper_bound) in
-    let fs : FitsSigned w64 (c.rem_euclid.result +ℤ pos 1) = omega (arith, signed_arith, c.rem_euclid.ensures.lower_bound, c.rem_euclid.ensures.upper_bound) in
-    let fm : FitsSigned w8 (c.rem_euclid.result +ℤ pos 1) = omega (arith, signed_arith, c.rem_euclid.ensures.lower_bound, c.rem_euclid.ensures.upper_bound) in
+    let fr : FitsSigned w64 c.rem_euclid.result =
+    omega (arith, signed_arith, c.rem_euclid.ensures.lower_bound, c.rem_euclid.ensures.upper_bound) in
+    let fs : FitsSigned w64 (c.rem_euclid.result +ℤ pos 1) =
+    omega (arith, signed_arith, c.rem_euclid.ensures.lower_bound, c.rem_euclid.ensures.upper_bound) in
+    let fm : FitsSigned w8 (c.rem_euclid.result +ℤ pos 1) =
+    omega (arith, signed_arith, c.rem_euclid.ensures.lower_bound, c.rem_euclid.ensures.upper_bound) in
     let quotient = simp to_z-of_z at c.div_euclid.ensures in
     let year = simp to_z-of_z at c.in-Ok.ensures in
     let fy : FitsSigned w16 c.in-Ok.year = rw year.1 year.0 in
@@ -22,9 +25,12 @@ pub returns-in-Err-clause-some : goal.returns-in-Err-clause-some
 returns-in-Err-clause-some c =
     let fn : FitsSigned w64 c.args.month_number = c.ranges.month_number in
     let fq : FitsSigned w64 c.div_euclid.result = omega (arith, signed_arith, c.div_euclid.type_inv) in
-    let fr : FitsSigned w64 c.rem_euclid.result = omega (arith, signed_arith, c.rem_euclid.ensures.lower_bound, c.rem_euclid.ensures.upper_bound) in
-    let fs : FitsSigned w64 (c.rem_euclid.result +ℤ pos 1) = omega (arith, signed_arith, c.rem_euclid.ensures.lower_bound, c.rem_euclid.ensures.upper_bound) in
-    let fm : FitsSigned w8 (c.rem_euclid.result +ℤ pos 1) = omega (arith, signed_arith, c.rem_euclid.ensures.lower_bound, c.rem_euclid.ensures.upper_bound) in
+    let fr : FitsSigned w64 c.rem_euclid.result =
+    omega (arith, signed_arith, c.rem_euclid.ensures.lower_bound, c.rem_euclid.ensures.upper_bound) in
+    let fs : FitsSigned w64 (c.rem_euclid.result +ℤ pos 1) =
+    omega (arith, signed_arith, c.rem_euclid.ensures.lower_bound, c.rem_euclid.ensures.upper_bound) in
+    let fm : FitsSigned w8 (c.rem_euclid.result +ℤ pos 1) =
+    omega (arith, signed_arith, c.rem_euclid.ensures.lower_bound, c.rem_euclid.ensures.upper_bound) in
     let quotient = simp to_z-of_z at c.div_euclid.ensures in
     let year = simp to_z-of_z at c.in-Ok.ensures in
     let fy : FitsSigned w16 c.in-Ok.year = rw year.1 year.0 in

@@ -21,7 +21,8 @@ returns-in_err-number c =
     let fm : FitsSigned w64 c.args.months = c.ranges.months in
     let ff : FitsSigned w64 c.month_number.result = search rules in
     let none = simp to_z-of_z at c.in_err-number.ensures in
-    rw c.from_residual.ensures (λ before h. absurd (none (subst (λ (m : ℤ). FitsSigned w64 (m -ℤ c.args.months)) (sym c.month_number.ensures) h.fits)))
+    rw c.from_residual.ensures
+    (λ before h. absurd (none (subst (λ (m : ℤ). FitsSigned w64 (m -ℤ c.args.months)) (sym c.month_number.ensures) h.fits)))
 
 pub returns-in_err-first : goal.returns-in_err-first
 returns-in_err-first c =

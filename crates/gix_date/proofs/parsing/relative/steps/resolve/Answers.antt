@@ -18,8 +18,10 @@ returns-then-eq-clause-step c =
     let z = plain_zoned c.args.moment in
     let value = rw (c.time_zone-zone.ensures, c.datetime.ensures) at c.in-Ok.ensures.value in
     let first = c.in-Ok.instant.nanosecond in
-    let same = (ranked_equal first c.timestamp.result.nanosecond _ (int_ranked first c.timestamp.result.nanosecond _ refl)).0 (sym c.eq.ensures ∙ c.if-eq.true) in
-    let here : z.timestamp.nanosecond ≡ picked_instant z.time_zone z.datetime = sym (same ∙ ap (λ (t : Timestamp). t.nanosecond) c.timestamp.ensures) ∙ value in
+    let same = (ranked_equal first c.timestamp.result.nanosecond _ (int_ranked first c.timestamp.result.nanosecond _ refl)).0
+    (sym c.eq.ensures ∙ c.if-eq.true) in
+    let here : z.timestamp.nanosecond ≡ picked_instant z.time_zone z.datetime =
+    sym (same ∙ ap (λ (t : Timestamp). t.nanosecond) c.timestamp.ensures) ∙ value in
     resolves-is z.time_zone z.timestamp.nanosecond z.timestamp.nanosecond z.datetime (shows-local z) here z.timestamp.in_range
 
 pub returns-clause-step : goal.returns-clause-step
@@ -27,4 +29,5 @@ returns-clause-step c =
     let z = plain_zoned c.args.moment in
     let value = rw (c.time_zone-zone.ensures, c.datetime.ensures) at c.in-Ok.ensures.value in
     let there = ap (λ (t : Timestamp). t.nanosecond) c.to_zoned.ensures.instant in
-    subst (λ (j : ℤ). Resolves z.time_zone z.timestamp.nanosecond j) (sym there) (resolves-is z.time_zone z.timestamp.nanosecond c.in-Ok.instant.nanosecond z.datetime (shows-local z) value c.in-Ok.instant.in_range)
+    subst (λ (j : ℤ). Resolves z.time_zone z.timestamp.nanosecond j) (sym there) (resolves-is z.time_zone z.timestamp.nanosecond
+    c.in-Ok.instant.nanosecond z.datetime (shows-local z) value c.in-Ok.instant.in_range)

@@ -1,0 +1,29 @@
+use Rattle.std.proofs.Common.{◌≡◌, ◌∙◌, ℕ, List, ◌++◌, ap, sym, None, Some}
+use Rattle.std.proofs.lemmas.Str.Pattern.{split_text_parts}
+use Rattle.std.specs.Prelude.{codes}
+use Rattle.gix_signature.specs.Signature.{HasNoCut, Parts, line_of}
+use Rattle.gix_signature.proofs.Cuts.{the-front, after_name, no-cut}
+use Rattle.gix_signature.proofs.lines.cut_line.Goals as goal
+
+pub returns-in_err-name : goal.returns-in_err-name
+returns-in_err-name c =
+    let none = split_text_parts (codes " <") c.args.line.now None c.in_err-name.ensures.cases in
+    let fact : HasNoCut c.args.line.now = λ q cut. none q.name (after_name q) cut.whole in
+    rw c.from_residual.ensures fact
+
+pub returns-in_err-mail : goal.returns-in_err-mail
+returns-in_err-mail c =
+    let found = split_text_parts (codes " <") c.args.line.now (Some (c.in_ok-name.name, c.in_ok-name.rest)) c.in_ok-name.ensures.cases in
+    let none = split_text_parts (codes "> ") c.in_ok-name.rest.now None c.in_err-mail.ensures.cases in
+    let fact : HasNoCut c.args.line.now =
+    λ q cut. none q.mail q.time (the-front c.args.line.now c.in_ok-name.name.now c.in_ok-name.rest.now q found cut).1 in
+    rw c.from_residual-in_err-mail.ensures fact
+
+pub returns-else-are_allowed : goal.returns-else-are_allowed
+returns-else-are_allowed c =
+    let p : Parts = record { name = c.in_ok-name.name.now; mail = c.in_ok-mail.mail.now; time = c.in_ok-mail.time.now } in
+    let found = split_text_parts (codes " <") c.args.line.now (Some (c.in_ok-name.name, c.in_ok-name.rest)) c.in_ok-name.ensures.cases in
+    let after =
+    split_text_parts (codes "> ") c.in_ok-name.rest.now (Some (c.in_ok-mail.mail, c.in_ok-mail.time)) c.in_ok-mail.ensures.cases in
+    let whole : c.args.line.now ≡ line_of p = found ∙ ap (λ (r : List ℕ). p.name ++ (codes " <" ++ r)) after in
+    no-cut c.args.line.now p whole (sym c.are_allowed.ensures ∙ c.if-are_allowed.false)
