@@ -88,7 +88,7 @@ typedef struct git_date_exact {
 typedef struct git_date_approximate {
     gix_date_time time;
     size_t ignored;  /* as in git_date_exact */
-    bool understood; /* else the time is the moment, or in the last days of 9999 near it */
+    bool understood; /* else the time is the moment, if the zone's clock finds it again */
 } git_date_approximate;
 
 /* What expires. */

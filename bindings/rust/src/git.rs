@@ -68,8 +68,8 @@ pub struct ReadDate {
 pub struct Approximate {
     /// The time. Its offset is the zone's, or the one that an exact date says.
     pub time: Time,
-    /// Whether anything was understood, by Git's own count. If not, the time is the moment in whole seconds, or in the
-    /// last days of 9999 near it.
+    /// Whether anything was understood, by Git's own count. If not, the time is the moment in whole seconds, if the
+    /// zone's clock finds it again: an hour off where that shows it twice, and near it in the last days of 9999.
     pub understood: bool,
     /// The place of the first word, number or sign of an offset that no rule used, as in [`ReadDate::ignored`].
     pub ignored: Option<usize>,

@@ -94,8 +94,8 @@ pub(crate) fn draft_of(moment: Zoned<'_>, today: &Today, text: &[u8]) -> Result<
 pub struct Approximate {
     /// The time: seconds since 1970-01-01 00:00:00 UTC, and the offset in seconds east of UTC.
     pub time: Time,
-    /// Whether anything was understood, by Git's own count. If not, the time is the moment in whole seconds, or in the
-    /// last days of 9999 near it.
+    /// Whether anything was understood, by Git's own count. If not, the time is the moment in whole seconds, if the
+    /// zone's clock finds it again: an hour off where that shows it twice, and near it in the last days of 9999.
     pub understood: bool,
     /// The place, in bytes, of the first word or number that no rule used, so that a program can say so; or else that of the first
     /// NUL, which ends the text.

@@ -109,8 +109,8 @@ class Approximate:
     """What `approxidate` makes of a text.
 
     - time: its offset is the zone's, or the one that an exact date says
-    - understood: whether anything was understood. If not, the time is the moment, or in the last days of 9999
-      near it.
+    - understood: whether anything was understood. If not, the time is the moment, if the zone's clock
+      finds it again.
     - ignored: as in `ReadDate`
     """
 
