@@ -539,9 +539,10 @@ static void refused_formats(void)
                                                   sizeof out, &len, &place);
         EXPECT(status == rows[i].status && len == 0 && place == rows[i].place, "%s: %u, %zu",
                rows[i].format, status, place);
-        EXPECT(git_date_show_by_format(&time, TEXT(rows[i].format), true, AT(93600), out, sizeof out,
-                                       &len, &place) == GIX_DATE_INVALID_ZONE,
-               "the zone is looked at first");
+        for (int local = 0; local < 2; local++)
+            EXPECT(git_date_show_by_format(&time, TEXT(rows[i].format), local, AT(93600), out,
+                                           sizeof out, &len, &place) == GIX_DATE_INVALID_ZONE,
+                   "the zone is looked at first");
     }
     EXPECT(is_untouched(out, sizeof out), "a refusal stores nothing");
 }

@@ -30,9 +30,9 @@ pub use Exact.Fast.{WritesMonthYear, WritesMailDate, WritesMailDay, WritesNamedD
 pub use Exact.Fast.{WritesTime, WritesStrictTime, WritesYearOffset, WritesYearTime, WritesSeconds, WritesRaw}
 unfoldable pub use Exact.Outcome.{SaidIsInstant, IsMinutes, instant_seconds, date_at, date_in, said_in, at_offset, date_of}
 unfoldable pub use Exact.Outcome.{read_at, DateOutcomeAt, DateOutcome, said_offset, IsPlaceIn, IsErrorIn, HasPlacesIn}
-unfoldable pub use Exact.Places.{without_colon, is_absolute, folder_of, file_of, is_utc, rule_of, IsRule, IsUtcOrRule, IsTextZone}
-unfoldable pub use Exact.Places.{IsZoneWithoutFile, data_len, says_leap_seconds, behind_first, counts_leap_seconds, table_error}
-unfoldable pub use Exact.Places.{IsNoTable, IsTable}
+unfoldable pub use Exact.Places.{without_colon, is_absolute, folder_of, file_of, is_utc, us_dates, rule_of, IsRule, IsUtcOrRule}
+unfoldable pub use Exact.Places.{IsTextZone, IsZoneWithoutFile, data_len, says_leap_seconds, behind_first, counts_leap_seconds}
+unfoldable pub use Exact.Places.{table_error, IsNoTable, IsTable}
 unfoldable pub use Exact.Reading.{ended, sign_rule, rule, nothing_read, read_on, step, steps, reading_of, place_in, error_of}
 unfoldable pub use Exact.Reading.{at_said, by_seconds, fields_said, at_or_fields, string_said, said_up_to, said_by}
 unfoldable pub use Exact.ZoneTexts.{distance, IsNear, signed, signed_hours, signed_clock, zone_offset}

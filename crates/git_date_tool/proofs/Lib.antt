@@ -1,5 +1,6 @@
 pub mod Answering
 pub mod AskedZones
+pub mod FileBytes
 pub mod Fronts
 pub mod Offsets
 pub mod OfText

@@ -1,5 +1,5 @@
 //! The zone of the moment.
-ghost use Rattle.std.specs.Prelude.{◌≡◌, MatchResult, None, option_map, ◌≤◌, IfOk, length};
+ghost use Rattle.std.specs.Prelude.{◌≡◌, MatchResult, None, option_map, ◌≤◌, IfOk, IfSome, length, take};
 ghost use Rattle.jiff.specs.ZoneView.{plain_zone};
 ghost use Rattle.git_date_tool.specs.declared.zones.ZoneText.TheVariants as texts;
 ghost use Rattle.git_date_tool.specs as Spec;
@@ -291,17 +291,28 @@ fn may_be_zone(file: Metadata) -> Result<(), NoZone> {
     Err(NoZone::Text(fault))
 }
 
-/// The bytes of an open file, which may grow meanwhile.
+/// All bytes of an open file, which may grow meanwhile.
+#[tactic(auto, using(crate::proofs::FileBytes::all_read))]
 fn read_open<R: Read + Drop>(alloc: Global, file: R) -> Result<Vec<u8>, NoZone>
-    ensures { IfOk result (λ bytes. length bytes.items ≤ MAX_FILE_BYTES) }
+    ensures few { IfOk result (λ bytes. length bytes.items ≤ MAX_FILE_BYTES) }
+    ensures whole { IfOk result (λ bytes. IfSome (R.remaining file) (λ left. bytes.items ≡ left)) }
 {
-    let mut bytes = Vec::new(alloc);
-    let mut file = file.take(MAX_FILE_BYTES + 1);
-    file.read_to_end(&mut bytes).map_err(no_zone)?;
+    let bytes = read_front(alloc, file, MAX_FILE_BYTES + 1)?;
     if bytes.len() as u64 > MAX_FILE_BYTES {
         return Err(NoZone::Text(ZoneFault::TooLarge));
     }
     Ok(bytes)
+}
+
+/// The first bytes of an open file, at most so many.
+fn read_front<R: Read + Drop>(alloc: Global, file: R, most: u64) -> Result<Vec<u8>, NoZone>
+    ensures { IfOk result (λ bytes. IfSome (R.remaining file) (λ left. bytes.items ≡ take most left)) }
+{
+    let mut bytes = Vec::new(alloc);
+    match file.take(most).read_to_end(&mut bytes) {
+        Ok(_) => Ok(bytes),
+        Err(error) => Err(no_zone(error)),
+    }
 }
 
 /// The table of a file's bytes.

@@ -5,6 +5,7 @@ mod error;
 mod header;
 mod help;
 mod judging;
+pub mod laws;
 mod program;
 mod stream;
 mod verdicts;

@@ -145,18 +145,12 @@ fn callers_ask_the_machine(rt: HostRuntime) -> Result<(), Fail> {
 
 #[test]
 fn callers_go_by_the_zone_of_the_machine(rt: HostRuntime) {
-    let machine = Machine {
-        rt,
-        seconds: 1_698_400_800,
-        zone: "EST5EDT,M3.2.0,M11.1.0",
-    };
+    let zone = "EST5EDT,M3.2.0,M11.1.0";
+    let machine = Machine::at(rt, 1_698_400_800, zone);
     let now = Time::new(1_698_400_800, -14_400);
     assert!(rt; matches!(commit_time(&machine), Ok(time) if time == now));
     assert!(rt; matches!(resolved(&machine, "now"), Ok(Ok(time)) if time == now));
-    let later = Machine {
-        seconds: 1_701_000_000,
-        ..machine
-    };
+    let later = Machine::at(rt, 1_701_000_000, zone);
     let winter = Time::new(1_701_000_000, -18_000);
     assert!(rt; matches!(commit_time(&later), Ok(time) if time == winter));
     let month_before = Time::new(1_698_318_000, -14_400);

@@ -1,5 +1,5 @@
 //! The lines of a reader, each given to a server in turn, and how far that is between two reads.
-ghost use Rattle.std.specs.Prelude.{◌≡◌, ◌<◌, ◌≤◌, [], length, IfErr, IfOk, IsTrue, OnOk};
+ghost use Rattle.std.specs.Prelude.{◌≡◌, ◌<◌, ◌≤◌, ◌==◌, length, IfErr, IfOk, OnOk};
 ghost use Rattle.std.specs.Io.KnownBytes.{ReadConsumes};
 ghost use Rattle.streams.specs.declared.error.ToolError.TheVariants.{TooManyLines};
 ghost use Rattle.streams.specs.declared.serving.Stop.TheVariants.{Reading};
@@ -193,7 +193,7 @@ impl Progress {
     /// Whether no line stands open.
     #[inline(always)]
     fn is_between_lines(&self) -> bool
-        ensures { IsTrue result → self.now.line.items ≡ [] }
+        ensures { result ≡ (length self.now.line.items == 0) }
     {
         self.line.len() == 0
     }

@@ -14,7 +14,7 @@ use Rattle.jiff_tz.specs.Tzif.{tzif_view, IsParseFailure, IsRefused}
 use Rattle.jiff_tz.specs.TzifReader.{header_at, read_tzif}
 use Rattle.jiff_tz.specs.declared.tzif.Tzif.{Tzif}
 use Rattle.git_date.specs.Rules.Groups.{slash}
-use Rattle.git_date.specs.declared.zone_texts.TheConstants.{MACHINE_ZONE, MAX_DATELESS, US_DATES, ZONE_FOLDER}
+use Rattle.git_date.specs.declared.zone_texts.TheConstants.{MACHINE_ZONE, MAX_DATELESS, ZONE_FOLDER}
 use Rattle.git_date.specs.declared.zone_texts.TheConstants.{HEADER_LEN}
 use Rattle.git_date.specs.declared.zone_texts.TableError.{TableError}
 use Rattle.git_date.specs.declared.zone_texts.TableError.TheVariants.{OutOfMemory, NotTzif, CountsLeapSeconds}
@@ -42,10 +42,14 @@ file_of tz =
 abbrev pub is_utc : List ℕ → Bool
 is_utc name = bytes_eq (lower name) (codes "utc") || bytes_eq (lower name) (codes "gmt")
 
+-- those of the United States: from the second Sunday of March to the first of November
+abbrev pub us_dates : List ℕ
+us_dates = codes ",M3.2.0,M11.1.0"
+
 -- the rule of a text; one without dates has those of the United States
 unfoldable pub rule_of : List ℕ → Option TzText
 rule_of text =
-    option_or (read_whole text) (if nat_le (length text) MAX_DATELESS then read_whole (text ++ US_DATES.now) else None)
+    option_or (read_whole text) (if nat_le (length text) MAX_DATELESS then read_whole (text ++ us_dates) else None)
 
 -- the zone of a rule
 abbrev pub IsRule : Option TzText → TimeZone → Type 0

@@ -1,4 +1,4 @@
-//! A machine of a given clock and zone, which takes memory and files from the one that the tests run on.
+//! A machine of a given clock and zone, perhaps a faulty one, which takes memory and files from the one that the tests run on.
 use std::alloc::{Allocator, Global};
 use std::env::FillError;
 use std::fs::{Metadata, OpenOptions};
@@ -10,9 +10,23 @@ use std::time::Duration;
 #[derive(Clone, Copy)]
 pub struct Machine {
     pub rt: HostRuntime,
-    /// Since 1970-01-01 00:00:00 UTC.
-    pub seconds: u32,
+    /// Since 1970-01-01 00:00:00 UTC. `None` is a clock that cannot be read.
+    pub seconds: Option<u32>,
     pub zone: &'static str,
+    /// What any path opens: as if its file were replaced once it was looked at.
+    pub opened: Option<&'static str>,
+}
+
+impl Machine {
+    /// One without a fault.
+    pub fn at(rt: HostRuntime, seconds: u32, zone: &'static str) -> Machine {
+        Machine {
+            rt,
+            seconds: Some(seconds),
+            zone,
+            opened: None,
+        }
+    }
 }
 
 impl Alloc for Machine {
@@ -29,7 +43,10 @@ impl Clock for Machine {
     }
 
     fn since_1970(&self) -> io::Result<Duration> {
-        Ok(Duration::from_secs(u64::from(self.seconds)))
+        match self.seconds {
+            Some(seconds) => Ok(Duration::from_secs(u64::from(seconds))),
+            None => Err(io::Error::from(io::ErrorKind::Unsupported)),
+        }
     }
 }
 
@@ -61,7 +78,7 @@ impl Files for Machine {
     type Dir = <HostRuntime as Files>::Dir;
 
     fn open_file(&self, how: &OpenOptions, path: &str) -> io::Result<<HostRuntime as Files>::File> {
-        self.rt.open_file(how, path)
+        self.rt.open_file(how, self.opened.unwrap_or(path))
     }
 
     fn open_dir(&self, path: &str) -> io::Result<<HostRuntime as Files>::Dir> {

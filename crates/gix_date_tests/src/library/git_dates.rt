@@ -165,13 +165,18 @@ fn the_offset_of_a_zone_has_hours_and_perhaps_minutes(rt: HostRuntime) -> Result
     Ok(())
 }
 
-/// The offset of a zone at 2023-07-01 00:00 in UTC.
-fn offset_in_july(zone: Option<TimeZone<'_>>) -> Result<Option<i32>, Fail> {
-    let july = Timestamp::from_second(1_688_169_600)?;
+/// The offset of a zone at so many seconds since 1970.
+fn offset_at(zone: Option<TimeZone<'_>>, seconds: i64) -> Result<Option<i32>, Fail> {
+    let instant = Timestamp::from_second(seconds)?;
     match zone {
-        Some(zone) => Ok(Some(zone.to_offset(july).seconds())),
+        Some(zone) => Ok(Some(zone.to_offset(instant).seconds())),
         None => Ok(None),
     }
+}
+
+/// The same at 2023-07-01 00:00 in UTC.
+fn offset_in_july(zone: Option<TimeZone<'_>>) -> Result<Option<i32>, Fail> {
+    offset_at(zone, 1_688_169_600)
 }
 
 #[test]
@@ -208,6 +213,21 @@ fn a_text_means_utc_or_a_rule(rt: HostRuntime) -> Result<(), Fail> {
         (MACHINE_ZONE, None),
     ] {
         assert!(rt; offset_in_july(zone_of_text(text))? == offset);
+    }
+    Ok(())
+}
+
+#[test]
+fn a_rule_without_dates_changes_on_those_of_the_united_states(rt: HostRuntime) -> Result<(), Fail> {
+    // By the C library. In Europe the clock went ahead on 26 March, and back on 29 October.
+    for (seconds, offset) in [
+        (1_678_000_000, 3600),
+        (1_679_300_000, 7200),
+        (1_698_600_000, 7200),
+        (1_699_100_000, 7200),
+        (1_699_200_000, 3600),
+    ] {
+        assert!(rt; offset_at(zone_of_text("CET-1CEST"), seconds)? == Some(offset));
     }
     Ok(())
 }

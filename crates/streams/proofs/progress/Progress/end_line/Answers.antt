@@ -6,7 +6,7 @@ use Rattle.streams.specs.Lines.{with_newline}
 use Rattle.streams.specs.Progress.{TakesIn, held_of, stage}
 use Rattle.streams.specs.Serving.{service}
 use Rattle.streams.proofs.Taking.{Extends-too_many, Extends-too_long, TakesIn-beyond, TakesIn-extended, TakesIn-newline, TakesIn-then}
-use Rattle.streams.proofs.Taking.{TakesIn-whole, some_line}
+use Rattle.streams.proofs.Taking.{TakesIn-whole, no_byte, some_line}
 use Rattle.streams.proofs.progress.Progress.end_line.Goals as goal
 
 pub returns-in_err-check_count : goal.returns-in_err-check_count
@@ -33,15 +33,14 @@ returns-then-part-gt-MAX_LINE_LEN g c =
 pub returns-in-Err : goal.returns-in-Err
 returns-in-Err g c =
     TakesIn-whole c.args.part.now (Err c.in-Err.fault) g.met.S.Server.stays g.met.S.Server.joins
-    (c.is_between_lines.ensures c.if-is_between_lines.true) c.requires.ready c.in_ok-check_count.ensures.room
+    (no_byte _ _ c.is_between_lines.ensures c.if-is_between_lines.true) c.requires.ready c.in_ok-check_count.ensures.room
     c.requires.is_line (omega arith) tt c.in-Err.ensures
 
 pub returns-then-is_between_lines : goal.returns-then-is_between_lines
 returns-then-is_between_lines g c =
-    let same = ap (λ line. record (held_of c.args.self.now) { line = line; ended = c.args.self.now.ended + 1 })
-    (c.is_between_lines.ensures c.if-is_between_lines.true) in
-    TakesIn-whole c.args.part.now (Ok tt) g.met.S.Server.stays g.met.S.Server.joins (c.is_between_lines.ensures c.if-is_between_lines.true)
-    c.requires.ready c.in_ok-check_count.ensures.room
+    let none = no_byte _ _ c.is_between_lines.ensures c.if-is_between_lines.true in
+    let same = ap (λ line. record (held_of c.args.self.now) { line = line; ended = c.args.self.now.ended + 1 }) none in
+    TakesIn-whole c.args.part.now (Ok tt) g.met.S.Server.stays g.met.S.Server.joins none c.requires.ready c.in_ok-check_count.ensures.room
     c.requires.is_line (omega arith) same c.in_default.ensures
 
 pub returns-in_err-extend : goal.returns-in_err-extend

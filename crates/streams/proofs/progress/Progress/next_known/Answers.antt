@@ -2,12 +2,12 @@ use Rattle.std.proofs.Common.{rules, arith, ◌≡◌, ◌<◌, ◌+◌, List, �
 use Rattle.streams.specs.Lines.{with_newline}
 use Rattle.streams.specs.Progress.{held_of, stage}
 use Rattle.streams.specs.Serving.{service}
-use Rattle.streams.proofs.Taking.{TakesIn-front, TakesIn-whole, some_line}
+use Rattle.streams.proofs.Taking.{TakesIn-front, TakesIn-whole, no_byte, some_line}
 use Rattle.streams.proofs.progress.Progress.next_known.Goals as goal
 
 pub returns-in-Ok-Some : goal.returns-in-Ok-Some
 returns-in-Ok-Some g c =
-    let none : c.args.self.now.line.items ≡ [] = c.is_between_lines.ensures c.if-not-is_between_lines.false in
+    let none : c.args.self.now.line.items ≡ [] = no_byte _ _ c.is_between_lines.ensures c.if-not-is_between_lines.false in
     let room : c.args.self.now.ended < c.args.self.now.most = omega (arith, c.requires.few, c.if-self.false) in
     let found = rw c.in-Ok-Some.field-0-is at c.in-Ok-Some.ensures in
     let same = ap (λ line. record (held_of c.args.self.now) { line = line; ended = c.args.self.now.ended + 1 }) none in
@@ -24,7 +24,7 @@ returns-in-Ok-None g c = let same = rw c.in-Ok-None.field-0-is at c.in-Ok-None.e
 
 pub returns-in-Err : goal.returns-in-Err
 returns-in-Err g c =
-    let none : c.args.self.now.line.items ≡ [] = c.is_between_lines.ensures c.if-not-is_between_lines.false in
+    let none : c.args.self.now.line.items ≡ [] = no_byte _ _ c.is_between_lines.ensures c.if-not-is_between_lines.false in
     let room : c.args.self.now.ended < c.args.self.now.most = omega (arith, c.requires.few, c.if-self.false) in
     let found = c.in-Err.ensures in
     TakesIn-front c.args.bytes.now found.0 found.1 c.in-Err.fault g.met.S.Server.stays g.met.S.Server.joins none c.requires room found.2
