@@ -30,9 +30,11 @@ def below(crate):
 
 
 def link(one, other):
-    """Gives a file that `rt` has kept another name: it replaces such a file, and never writes into one."""
+    """Gives a file that `rt` has kept another name: it replaces such a file, and never writes into one. What it removes is needed no more."""
     try:
         os.link(one, other)
+    except FileNotFoundError:
+        pass
     except OSError:
         shutil.copy2(one, other)
 
