@@ -10,4 +10,4 @@ mod laws;
 #[cfg(test)]
 mod library;
 #[cfg(test)]
-mod streams;
+mod programs;

@@ -1,7 +1,7 @@
 //! Runs over the lines of a stream, as readers give them piece by piece.
 use crate::fakes::harness::ran;
 use crate::fakes::{Asking, Replied, Slow, Supply};
-use crate::streams::failing::{RUNS, newlines};
+use crate::programs::failing::{RUNS, newlines};
 use gix_date::Time;
 use gix_date::device::Device;
 use gix_date_tool::{Mode, ToolError, run};

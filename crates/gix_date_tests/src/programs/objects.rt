@@ -1,7 +1,7 @@
 //! Objects and lines judged over readers and writers that fail in mid-stream.
 use crate::fakes::harness::words_of;
 use crate::fakes::{Halting, Hoarder, Slow, Small, Supply, take_all};
-use crate::streams::failing::are_first_lines;
+use crate::programs::failing::are_first_lines;
 use git_ident_tool::{Fault, Judge, StreamFault, Telling, execute, show_usage};
 use gix_date::device::Device;
 use gix_date_tool::{Status, ToolError};

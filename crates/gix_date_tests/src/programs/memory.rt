@@ -1,7 +1,7 @@
 //! Runs and calls where each request for memory is refused. What the calls of single texts ask for, `tests/memory` counts.
 use crate::fakes::harness::{executed, ran, words_of};
 use crate::fakes::{Hoarder, Small, Supply, take_all};
-use crate::streams::failing::{RUNS, newlines};
+use crate::programs::failing::{RUNS, newlines};
 use gix_date::{Error, Time, parse};
 use gix_date_tool::{Mode, Status, ToolError, command};
 use std::alloc::Global;
