@@ -1,4 +1,5 @@
 //! Writers and readers for tests: they take and give a few bytes a call, count the calls, and fail on demand.
+pub mod answers;
 pub mod harness;
 pub mod machine;
 pub mod words;
@@ -82,6 +83,11 @@ impl Slow {
     pub fn roomy(alloc: Global) -> Slow {
         Slow::new(alloc, 1 << 20, 1 << 30, io::ErrorKind::Other)
     }
+
+    /// Whether it took exactly this.
+    pub fn took(&self, text: &[u8]) -> bool {
+        self.taken.as_slice() == text
+    }
 }
 
 impl Write for Slow {
@@ -117,6 +123,11 @@ impl Halting {
             calls: 0,
             room,
         }
+    }
+
+    /// Whether it took exactly this.
+    pub fn took(&self, text: &[u8]) -> bool {
+        self.taken.as_slice() == text
     }
 }
 

@@ -9,14 +9,18 @@ fn laws_are_called_for_nothing_but_what_they_state() {
 }
 
 #[test]
-#[tactic(auto, using(gix_date::proofs::Relative::FixedTimes::moment_fixed))]
-fn laws_are_called_for_what_they_state_of_a_time(rt: HostRuntime) -> Result<(), Fail> {
+fn laws_are_called_for_what_they_state_of_a_time() {
     let time = Time::new(1_660_874_655, 28_800);
     laws::read_back(time);
     laws::read_back_wide(time);
     gix_date_laws::short_read_back(time, RawOffsets::Quarter);
     gix_date_laws::earlier(time, &[(1, 86_400)]);
-    let moment = time.to_zoned()?;
+}
+
+#[test]
+#[tactic(auto, using(gix_date::proofs::Relative::FixedTimes::moment_fixed))]
+fn laws_are_called_for_what_they_state_of_a_moment(rt: HostRuntime) -> Result<(), Fail> {
+    let moment = Time::new(1_660_874_655, 28_800).to_zoned()?;
     laws::yesterday(&moment);
     // A pair of each period, and of none of it.
     laws::seconds_permute(
@@ -28,9 +32,15 @@ fn laws_are_called_for_what_they_state_of_a_time(rt: HostRuntime) -> Result<(), 
     if day <= 28 {
         laws::months_add(&moment, &[(0, 1), (1, 12), (2, 1)]);
     }
+    Ok(())
+}
+
+#[test]
+fn laws_of_headlines_are_called_for_what_they_state(rt: HostRuntime) -> Result<(), Fail> {
+    let moment = Time::new(1_660_874_655, 28_800).to_zoned()?;
     let parsed = laws::headline(rt.alloc(), "5 -0130", Some(moment));
-    assert!(rt; matches!(parsed, Ok(raw) if raw == Time::new(5, -5400)));
+    assert!(rt; parsed.ok() == Some(Time::new(5, -5400)));
     let wide = laws::headline_with(rt.alloc(), "5 +0007", None, RawOffsets::WholeMinutes);
-    assert!(rt; matches!(wide, Ok(raw) if raw == Time::new(5, 420)));
+    assert!(rt; wide.ok() == Some(Time::new(5, 420)));
     Ok(())
 }

@@ -1,5 +1,6 @@
 //! How the program is called over readers and writers of one's own.
 use gix_date::device::Device;
+use gix_date::{Error, Time};
 use gix_date_tool::{Mode, Status, ToolError, execute, run};
 use std::alloc::{AllocError, Global};
 use std::io::{Read, Write};
@@ -11,6 +12,13 @@ pub fn words_of(alloc: Global, line: &[&str]) -> Result<Vec<String>, AllocError>
         words.push(String::from_str(alloc, word)?)?;
     }
     Ok(words)
+}
+
+/// What writing a time into a writer comes to, and what became of the writer.
+pub fn written<W: Write>(time: Time, writer: W) -> (Result<(), Error>, W) {
+    let mut device = Device::new(writer);
+    let answer = time.write_to(&mut device);
+    (answer, device.into_inner())
 }
 
 /// How a run without a moment ends over this reader and this writer, and what became of the two.

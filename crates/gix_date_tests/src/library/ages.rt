@@ -1,4 +1,5 @@
 //! Ages and offsets as Git's own code has them.
+use crate::fakes::answers::reads;
 use git_date::{
     Age, DateError, DateFormat, age_at, decimal_of_offset, offset_of_decimal, text_by_format_in,
 };
@@ -11,7 +12,7 @@ use std::test::Fail;
 #[test]
 fn an_age_has_the_unit_that_git_chooses(rt: HostRuntime) -> Result<(), Fail> {
     let now = Timestamp::from_second(2_000_000_000)?;
-    for (before, age) in [
+    for &(before, age) in &[
         (0, Age::Seconds(0)),
         (89, Age::Seconds(89)),
         (90, Age::Minutes(2)),
@@ -31,11 +32,15 @@ fn an_age_has_the_unit_that_git_chooses(rt: HostRuntime) -> Result<(), Fail> {
 #[test]
 fn an_age_is_of_a_time_from_1970_on(rt: HostRuntime) -> Result<(), Fail> {
     let now = Timestamp::from_second(5)?;
-    assert!(rt; age_at(Time::new(6, 0), now) == Ok(None));
-    assert!(rt; age_at(Time::new(i64::MAX, 0), now) == Ok(None));
-    assert!(rt; age_at(Time::new(5, 360_000), now) == Ok(Some(Age::Seconds(0))));
-    assert!(rt; age_at(Time::new(-1, 0), now) == Err(DateError::Range));
-    assert!(rt; age_at(Time::new(i64::MIN, 0), now) == Err(DateError::Range));
+    for &(seconds, offset, age) in &[
+        (6, 0, Ok(None)),
+        (i64::MAX, 0, Ok(None)),
+        (5, 360_000, Ok(Some(Age::Seconds(0)))),
+        (-1, 0, Err(DateError::Range)),
+        (i64::MIN, 0, Err(DateError::Range)),
+    ] {
+        assert!(rt; age_at(Time::new(seconds, offset), now) == age);
+    }
     let before = Timestamp::from_second(-1)?;
     assert!(rt; age_at(Time::new(0, 0), before) == Err(DateError::Range));
     Ok(())
@@ -44,7 +49,7 @@ fn an_age_is_of_a_time_from_1970_on(rt: HostRuntime) -> Result<(), Fail> {
 // Hours of 3600 seconds and minutes of 60.
 #[test]
 fn offsets_are_said_by_decimals(rt: HostRuntime) {
-    for (decimal, offset) in [
+    for &(decimal, offset) in &[
         (0, 0),
         (-1, -60),
         (530, 19_800),
@@ -53,12 +58,20 @@ fn offsets_are_said_by_decimals(rt: HostRuntime) {
     ] {
         assert!(rt; offset_of_decimal(decimal) == offset && decimal_of_offset(offset) == decimal);
     }
-    assert!(rt; offset_of_decimal(99) == 5940);
-    assert!(rt; offset_of_decimal(59_652_315) == 2_147_483_647);
-    assert!(rt; offset_of_decimal(i32::MIN) == -2_147_483_647);
-    assert!(rt; decimal_of_offset(3599) == 59);
-    assert!(rt; decimal_of_offset(-5401) == -130);
-    assert!(rt; decimal_of_offset(i32::MIN) == -59_652_314);
+}
+
+#[test]
+fn no_decimal_and_no_offset_is_too_large(rt: HostRuntime) {
+    for &(decimal, offset) in &[
+        (99, 5940),
+        (59_652_315, 2_147_483_647),
+        (i32::MIN, -2_147_483_647),
+    ] {
+        assert!(rt; offset_of_decimal(decimal) == offset);
+    }
+    for &(offset, decimal) in &[(3599, 59), (-5401, -130), (i32::MIN, -59_652_314)] {
+        assert!(rt; decimal_of_offset(offset) == decimal);
+    }
 }
 
 // What Git 2.39.5 shows by `format:` and `format-local:` where `TZ` is `UTC+4:30`.
@@ -67,10 +80,10 @@ fn a_format_goes_by_the_time_or_the_zone(rt: HostRuntime) -> Result<(), Fail> {
     let zone = Offset::from_seconds(-16_200)?.to_time_zone();
     let format = DateFormat::new("%Y-%m-%d %H:%M %z")?;
     let time = Time::new(1_251_660_000, 7200);
-    let own = text_by_format_in(rt.alloc(), time, format, false, zone)?;
-    assert!(rt; own.as_str() == "2009-08-30 21:20 +0200");
-    let local = text_by_format_in(rt.alloc(), time, format, true, zone)?;
-    assert!(rt; local.as_str() == "2009-08-30 14:50 -0430");
+    let own = text_by_format_in(rt.alloc(), time, format, false, zone);
+    assert!(rt; reads(own, "2009-08-30 21:20 +0200"));
+    let local = text_by_format_in(rt.alloc(), time, format, true, zone);
+    assert!(rt; reads(local, "2009-08-30 14:50 -0430"));
     assert!(rt; text_by_format_in(rt.alloc(), Time::new(-1, 0), format, true, zone).is_err());
     Ok(())
 }

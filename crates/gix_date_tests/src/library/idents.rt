@@ -1,9 +1,10 @@
 //! Identity lines, with outside values, and written to writers that fail.
+use crate::fakes::answers::shows;
 use crate::fakes::{Dribble, Slow};
 use gix_date::Time;
 use gix_date::device::Device;
 use gix_signature::{FsckFault, FsckId, IdentFault, IdentRef, fsck_of, laws, write_ident};
-use std::io::ErrorKind;
+use std::io::{ErrorKind, Write};
 use std::test::Fail;
 
 #[test]
@@ -11,26 +12,28 @@ fn a_line_in_latin_1_is_shown(rt: HostRuntime) -> Result<(), Fail> {
     let ident = IdentRef::from_bytes(b"J\xf6rg \t<j@e> 5 +0100").ok_or("an identity")?;
     assert!(rt; ident.name == b"J\xf6rg".as_slice());
     assert!(rt; ident.mail == b"j@e".as_slice());
+    Ok(())
+}
+
+#[test]
+fn a_line_has_the_date_that_git_reads(rt: HostRuntime) -> Result<(), Fail> {
+    let ident = IdentRef::from_bytes(b"J\xf6rg \t<j@e> 5 +0100").ok_or("an identity")?;
     let date = ident.date.ok_or("a date")?;
     assert!(rt; date.seconds == b"5".as_slice());
     assert!(rt; date.offset == b"+0100".as_slice());
     let time = date.git_time();
     assert!(rt; (time.seconds, time.offset) == (5, 100));
-    assert!(rt; matches!(time.to_time(), Ok(time) if time == Time::new(5, 3600)));
+    assert!(rt; time.to_time().ok() == Some(Time::new(5, 3600)));
     Ok(())
 }
 
 #[test]
 fn a_line_without_a_date_or_an_identity_says_so(rt: HostRuntime) -> Result<(), Fail> {
+    const OTHERS: [&[u8]; 4] = [b"A a> 5 +0000", b"A <a 5 +0000", b"", b"A\0 <a> 5 +0000"];
     let ident = IdentRef::from_bytes(b"Foo Bar <foo@bar.com>\n5 +0000").ok_or("an identity")?;
     assert!(rt; ident.name == b"Foo Bar".as_slice());
     assert!(rt; ident.date.is_none());
-    for line in [
-        b"A a> 5 +0000".as_slice(),
-        b"A <a 5 +0000",
-        b"",
-        b"A\0 <a> 5 +0000",
-    ] {
+    for line in &OTHERS {
         assert!(rt; IdentRef::from_bytes(line).is_none());
     }
     Ok(())
@@ -38,8 +41,8 @@ fn a_line_without_a_date_or_an_identity_says_so(rt: HostRuntime) -> Result<(), F
 
 #[test]
 fn fsck_says_where_a_line_is_wrong(rt: HostRuntime) {
-    for (line, id, place) in [
-        (b"A\0<a> 5 +0000".as_slice(), FsckId::NulInHeader, 1),
+    const WRONG: [(&[u8], FsckId, usize); 11] = [
+        (b"A\0<a> 5 +0000", FsckId::NulInHeader, 1),
         (b"<a> 5 +0000", FsckId::MissingNameBeforeEmail, 0),
         (b"A >a< 5 +0000", FsckId::BadName, 2),
         (b"A", FsckId::MissingEmail, 1),
@@ -50,7 +53,8 @@ fn fsck_says_where_a_line_is_wrong(rt: HostRuntime) {
         (b"A <a> -5 +0000", FsckId::BadDateOverflow, 6),
         (b"A <a> x", FsckId::BadDate, 6),
         (b"A <a> 5 +00000\n", FsckId::BadTimezone, 8),
-    ] {
+    ];
+    for &(line, id, place) in &WRONG {
         assert!(rt; fsck_of(line) == Some(FsckFault { id, place }), "{id:?}");
     }
     assert!(rt; fsck_of(b"J\xf6rg <j@e> 5 +9999\n<").is_none());
@@ -58,59 +62,72 @@ fn fsck_says_where_a_line_is_wrong(rt: HostRuntime) {
 
 #[test]
 fn refusals_of_a_line_come_before_a_byte(rt: HostRuntime) {
-    let now = Time::new(5, 0);
-    for (name, mail, time, text) in [
-        (
-            b"A".as_slice(),
-            b"a\0".as_slice(),
-            Time::new(-1, 0),
-            "a name or mail may not hold NUL",
-        ),
-        (b"", b"a", Time::new(-1, 0), "the name is empty"),
+    const REFUSED: [(&[u8], &[u8], i64, i32, &str); 5] = [
+        (b"A", b"a\0", -1, 0, "a name or mail may not hold NUL"),
+        (b"", b"a", -1, 0, "the name is empty"),
         (
             b" .<",
             b"a",
-            Time::new(-1, 0),
+            -1,
+            0,
             "the name consists only of disallowed characters",
         ),
         (
             b"A",
             b"a",
-            Time::new(-1, 360_000),
+            -1,
+            360_000,
             "a time before 1970 cannot be written",
         ),
-        (b"A", b"a", Time::new(0, 360_000), "the offset is too wide"),
-    ] {
+        (b"A", b"a", 0, 360_000, "the offset is too wide"),
+    ];
+    for &(name, mail, seconds, offset, text) in &REFUSED {
         let mut out = Dribble::new(99);
-        match write_ident(name, mail, time, &mut out) {
+        match write_ident(name, mail, Time::new(seconds, offset), &mut out) {
             Ok(()) => assert!(rt; false, "{text}"),
-            Err(fault) => assert!(rt;
-                format!(in rt.alloc(); "{fault}").is_ok_and(|told| told.as_str() == text),
-                "{text}"
-            ),
+            Err(fault) => assert!(rt; shows(rt.alloc(), &fault, text), "{text}"),
         }
         assert!(rt; out.calls == 0);
     }
-    let mut out = Device::new(Slow::roomy(rt.alloc()));
-    assert!(rt; write_ident(b". A <x> \"B\"", b"a>\n", now, &mut out).is_ok());
-    assert!(rt; out.into_inner().taken.as_slice() == b"A x \"B <a> 5 +0000".as_slice());
+}
+
+/// How writing an identity ends, with the kind by which its writer failed, and what became of the writer.
+fn identified<W: Write>(
+    name: &[u8],
+    mail: &[u8],
+    time: Time,
+    writer: W,
+) -> (Result<(), Option<ErrorKind>>, W) {
+    let mut out = Device::new(writer);
+    let answer = match write_ident(name, mail, time, &mut out) {
+        Ok(()) => Ok(()),
+        Err(IdentFault::Write(kind)) => Err(Some(kind)),
+        Err(_) => Err(None),
+    };
+    (answer, out.into_inner())
+}
+
+#[test]
+fn crud_is_left_out_of_a_written_line(rt: HostRuntime) {
+    let (answer, writer) = identified(
+        b". A <x> \"B\"",
+        b"a>\n",
+        Time::new(5, 0),
+        Slow::roomy(rt.alloc()),
+    );
+    assert!(rt; answer.is_ok());
+    assert!(rt; writer.took(b"A x \"B <a> 5 +0000"));
 }
 
 #[test]
 fn a_writer_that_fails_has_taken_a_prefix_of_the_cleaned_line(rt: HostRuntime) {
     let line = b"AB <ab> 5 +0100";
     for room in 0..line.len() {
-        let mut out = Device::new(Slow::new(rt.alloc(), 2, room, ErrorKind::StorageFull));
-        assert!(rt;
-            matches!(
-                write_ident(b"'A\nB'", b"<a>b", Time::new(5, 3600), &mut out),
-                Err(IdentFault::Write(ErrorKind::StorageFull))
-            ),
-            "{room}"
-        );
-        let inner = out.into_inner();
-        assert!(rt; inner.taken.as_slice() == &line[..room], "{room}");
-        assert!(rt; inner.flushes == 0, "{room}");
+        let writer = Slow::new(rt.alloc(), 2, room, ErrorKind::StorageFull);
+        let (answer, writer) = identified(b"'A\nB'", b"<a>b", Time::new(5, 3600), writer);
+        assert!(rt; answer == Err(Some(ErrorKind::StorageFull)), "{room}");
+        assert!(rt; writer.took(&line[..room]), "{room}");
+        assert!(rt; writer.flushes == 0, "{room}");
     }
 }
 

@@ -1,5 +1,4 @@
 //! The lines of bytes, and those at their front that have the usual form.
-use std::test::Fail;
 use streams::usual::{MAX_HEADER, canonical_line, unknown_line};
 use streams::{first_line, split_line};
 
@@ -31,26 +30,30 @@ fn the_last_line_may_lack_its_newline(rt: HostRuntime) {
 
 // Git writes headers so. Only some of them are promised: of 1 to 16 digits, the first no zero, where 16 bytes are left.
 #[test]
-fn usual_headers_are_found(rt: HostRuntime) -> Result<(), Fail> {
-    for (bytes, rest) in [
-        (b"1660874655 +0800\n".as_slice(), b"".as_slice()),
+fn usual_headers_are_found(rt: HostRuntime) {
+    const USUAL: [(&[u8], &[u8]); 5] = [
+        (b"1660874655 +0800\n", b""),
         (b"1660874655 -0130\nx\n", b"x\n"),
         (b"1 +0000\n8 bytes.", b"8 bytes."),
         (b"9 -9959\n8 bytes.", b"8 bytes."),
         (b"1234567890123456 +9959\n\n", b"\n"),
-    ] {
-        assert!(rt; matches!(canonical_line(bytes), Some(after) if after == rest));
+    ];
+    for &(bytes, rest) in &USUAL {
+        assert!(rt; canonical_line(bytes) == Some(rest));
         assert!(rt; unknown_line(bytes).is_none());
     }
+}
+
+#[test]
+fn the_longest_usual_header_has_the_greatest_length(rt: HostRuntime) {
     let longest = b"1234567890123456 +9959\n".as_slice();
-    assert!(rt; split_line(longest).ok_or("a line")?.0.len() == MAX_HEADER);
-    Ok(())
+    assert!(rt; matches!(split_line(longest), Some((line, _)) if line.len() == MAX_HEADER));
 }
 
 #[test]
 fn other_lines_are_not_found(rt: HostRuntime) {
-    for bytes in [
-        b"".as_slice(),
+    const OTHERS: [&[u8]; 10] = [
+        b"",
         b"1 +0000\n7 bytes",
         b"1660874655 +0800",
         b"0 +0000\n8 bytes.",
@@ -60,7 +63,8 @@ fn other_lines_are_not_found(rt: HostRuntime) {
         b"1660874655 +0860\n",
         b"1660874655 +0800\r\n",
         b"yesterday +0800\n",
-    ] {
+    ];
+    for bytes in &OTHERS {
         assert!(rt; canonical_line(bytes).is_none());
         assert!(rt; unknown_line(bytes).is_none());
     }
@@ -68,18 +72,13 @@ fn other_lines_are_not_found(rt: HostRuntime) {
 
 #[test]
 fn headers_of_the_unknown_offset_are_found(rt: HostRuntime) {
-    for (bytes, text, rest) in [
-        (
-            b"1660874655 -0000\n".as_slice(),
-            "1660874655",
-            b"".as_slice(),
-        ),
+    const UNKNOWN: [(&[u8], &str, &[u8]); 3] = [
+        (b"1660874655 -0000\n", "1660874655", b""),
         (b"1 -0000\n8 bytes.", "1", b"8 bytes."),
         (b"1234567890123456 -0000\nx\n", "1234567890123456", b"x\n"),
-    ] {
-        assert!(rt;
-            matches!(unknown_line(bytes), Some((seconds, after)) if seconds == text && after == rest)
-        );
+    ];
+    for &(bytes, text, rest) in &UNKNOWN {
+        assert!(rt; unknown_line(bytes) == Some((text, rest)));
         assert!(rt; canonical_line(bytes).is_none());
     }
 }

@@ -1,4 +1,5 @@
 //! Public names, each where it stands, and the traits that callers count on.
+use crate::fakes::answers::{debug_has, debugs, shows};
 use gix_date::names::{begins, day_name, is_name, weekday_told};
 use gix_date::parsing::TimeBuf;
 use gix_date::time::{CustomFormat, Format, format};
@@ -29,35 +30,64 @@ pub(crate) fn refused(alloc: Global, text: &str, now: Option<Zoned<'_>>) -> Opti
     }
 }
 
+/// Whether the text is refused, and comes back as it was.
+pub(crate) fn comes_back(alloc: Global, text: &str, now: Option<Zoned<'_>>) -> bool {
+    match refused(alloc, text, now) {
+        Some(input) => input.as_bytes() == text.as_bytes(),
+        None => false,
+    }
+}
+
 #[test]
-fn names_stand_at_the_root(rt: HostRuntime) -> Result<(), Fail> {
+fn names_stand_at_the_root(rt: HostRuntime) {
     assert!(rt; parts(Time::new(5, -60)) == (5, -60));
     assert!(rt; longest() == 26);
+    assert!(rt; TimeBuf::default().as_str() == "");
+}
+
+#[test]
+fn refusals_stand_at_the_root(rt: HostRuntime) -> Result<(), Fail> {
     let moment = Time::new(5, -60).to_zoned()?;
-    let input = refused(rt.alloc(), "1:2", Some(moment)).ok_or("a date")?;
-    assert!(rt; input.as_bytes() == b"1:2".as_slice());
+    assert!(rt; comes_back(rt.alloc(), "1:2", Some(moment)));
     let refusal = gix_date::parsing::parse_no_alloc("1:2", Some(moment), RawOffsets::Quarter);
     assert!(rt; refusal == Err(ParseError::UnknownFormat));
-    assert!(rt; TimeBuf::default().as_str() == "");
     Ok(())
 }
 
 #[test]
-fn words_tell_months_and_days(rt: HostRuntime) -> Result<(), Fail> {
-    assert!(rt; short_month(b"august") == Some("Aug"));
-    assert!(rt; short_month(b"SEPT") == Some("Sep"));
-    assert!(rt; short_month(b"may") == Some("May"));
-    for word in [b"Au".as_slice(), b"mays", b"augusta", b""] {
-        assert!(rt; short_month(word) == None, "{word:?}");
+fn words_tell_months(rt: HostRuntime) {
+    const WORDS: [(&[u8], Option<&str>); 7] = [
+        (b"august", Some("Aug")),
+        (b"SEPT", Some("Sep")),
+        (b"may", Some("May")),
+        (b"Au", None),
+        (b"mays", None),
+        (b"augusta", None),
+        (b"", None),
+    ];
+    for &(word, month) in &WORDS {
+        assert!(rt; short_month(word) == month, "{word:?}");
     }
-    for (word, day) in [(b"Mondays".as_slice(), 0), (b"tue", 1), (b"SUNDAY", 6)] {
-        assert!(rt; weekday_told(word) == Some(day), "{word:?}");
+}
+
+#[test]
+fn words_tell_days(rt: HostRuntime) {
+    const WORDS: [(&[u8], Option<u8>); 4] = [
+        (b"Mondays", Some(0)),
+        (b"tue", Some(1)),
+        (b"SUNDAY", Some(6)),
+        (b"frid!", None),
+    ];
+    for &(word, day) in &WORDS {
+        assert!(rt; weekday_told(word) == day, "{word:?}");
     }
-    assert!(rt; weekday_told(b"frid!") == None);
     assert!(rt; (day_name(0), day_name(6)) == ("Mon", "Sun"));
+}
+
+#[test]
+fn words_are_names_or_begin_them(rt: HostRuntime) {
     assert!(rt; is_name(b"NOON", b"noon") && !is_name(b"noo", b"noon"));
     assert!(rt; begins(b"noo", b"NOON") && begins(b"", b"") && !begins(b"noons", b"noon"));
-    Ok(())
 }
 
 /// Whether two values are the same, by a full equality.
@@ -67,13 +97,17 @@ pub(crate) fn same<T: Eq>(one: &T, other: &T) -> bool {
 
 #[test]
 fn types_have_the_traits_that_callers_count_on(rt: HostRuntime) {
-    let time = gix_date::time::Time::new(5, -60);
-    assert!(rt; same(&time, &Time::new(5, -60)));
+    assert!(rt; same(&gix_date::time::Time::new(5, -60), &Time::new(5, -60)));
     assert!(rt; same(&Mode::Parse, &Mode::Parse));
     assert!(rt; same(&Mode::Sign, &Mode::Sign) && !same(&Mode::Sign, &Mode::Parse));
     assert!(rt; !same(&RawOffsets::Quarter, &RawOffsets::WholeMinutes));
     assert!(rt; same(&ParseError::Range, &ParseError::Range));
     assert!(rt; !same(&ParseError::Range, &ParseError::MissingNow));
+}
+
+#[test]
+fn a_buffer_that_is_lent_is_copied(rt: HostRuntime) {
+    let time = gix_date::time::Time::new(5, -60);
     let mut buf = TimeBuf::default();
     assert!(rt; time.to_str(&mut buf).is_ok());
     let lent: &TimeBuf = &buf;
@@ -87,8 +121,8 @@ const fn of_a_log() -> CustomFormat {
 }
 
 #[test]
-fn formats_have_names(rt: HostRuntime) -> Result<(), Fail> {
-    let named: [CustomFormat; 7] = [
+fn formats_have_names(rt: HostRuntime) {
+    const NAMED: [CustomFormat; 7] = [
         format::SHORT,
         format::RFC2822,
         format::GIT_RFC2822,
@@ -97,46 +131,63 @@ fn formats_have_names(rt: HostRuntime) -> Result<(), Fail> {
         format::GITOXIDE,
         format::DEFAULT,
     ];
-    for custom in named {
-        let debug = format!(in rt.alloc(); "{custom:?}")?;
-        assert!(rt; debug.contains("%Y"), "{debug}");
+    for custom in &NAMED {
+        assert!(rt; debug_has(rt.alloc(), custom, "%Y"), "{custom:?}");
     }
     for other in [format::UNIX, format::RAW, Format::Custom(of_a_log())] {
-        let debug = format!(in rt.alloc(); "{other:?}")?;
-        assert!(rt; !debug.is_empty());
+        assert!(rt; debug_has(rt.alloc(), &other, ""));
     }
-    Ok(())
 }
 
 #[test]
-fn careful_options_and_refusals_are_as_told(rt: HostRuntime) -> Result<(), Fail> {
+fn careful_options_are_as_told(rt: HostRuntime) {
     let options = CarefulOptions::default();
     assert!(rt; options.raw == RawOffsets::Quarter);
     assert!(rt; options.without_offset == WithoutOffset::Utc);
     assert!(rt; options.texts == Texts::Careful);
-    let unclear = parse_carefully("30 min ago", None, options);
-    assert!(rt; unclear == Err(CarefulError::Unclear(3)));
-    let refused = parse_carefully("banana", None, options);
-    assert!(rt; refused == Err(CarefulError::Refused(ParseError::UnknownFormat)));
-    let text = format!(in rt.alloc(); "{}", CarefulError::Unclear(3))?;
     assert!(rt;
-        text.as_str()
-            == "not understood from byte 3 on; expected a date, or counts and whole units, then `ago`, such as \"2 weeks ago\""
+        debugs(
+            rt.alloc(),
+            &options,
+            "CarefulOptions { raw: Quarter, without_offset: Utc, texts: Careful }"
+        )
     );
-    let late = parse_carefully("1704450600000", None, options);
-    assert!(rt; late == Err(CarefulError::AfterYear9999));
-    let text = format!(in rt.alloc(); "{}", CarefulError::AfterYear9999)?;
+}
+
+#[test]
+fn careful_refusals_are_as_told(rt: HostRuntime) {
+    for &(text, refusal) in &[
+        ("30 min ago", CarefulError::Unclear(3)),
+        ("banana", CarefulError::Refused(ParseError::UnknownFormat)),
+        ("1704450600000", CarefulError::AfterYear9999),
+    ] {
+        let answer = parse_carefully(text, None, CarefulOptions::default());
+        assert!(rt; answer == Err(refusal));
+    }
+}
+
+#[test]
+fn each_careful_refusal_says_what_is_wrong(rt: HostRuntime) -> Result<(), Fail> {
+    for &(refusal, text) in &[
+        (
+            CarefulError::Unclear(3),
+            "not understood from byte 3 on; expected a date, or counts and whole units, then `ago`, such as \"2 weeks ago\"",
+        ),
+        (
+            CarefulError::AfterYear9999,
+            "a number of seconds after the year 9999; if milliseconds were meant, divide them by 1000, and if a date and a clock, \
+         write them as \"2024-01-05 10:30:00\"; `@` before the number reads it as seconds",
+        ),
+    ] {
+        assert!(rt; shows(rt.alloc(), &refusal, text));
+    }
+    let text = format!(in rt.alloc(); "{}", ParseError::MissingNow)?;
     assert!(rt;
-        text.as_str()
-            == "a number of seconds after the year 9999; if milliseconds were meant, divide them by 1000, and if a date and a clock, \
-         write them as \"2024-01-05 10:30:00\"; `@` before the number reads it as seconds"
-    );
-    let text = format!(in rt.alloc(); "{}", CarefulError::Refused(ParseError::MissingNow))?;
-    let same = format!(in rt.alloc(); "{}", ParseError::MissingNow)?;
-    assert!(rt; text == same);
-    let text = format!(in rt.alloc(); "{:?}", options)?;
-    assert!(rt;
-        text.as_str() == "CarefulOptions { raw: Quarter, without_offset: Utc, texts: Careful }"
+        shows(
+            rt.alloc(),
+            &CarefulError::Refused(ParseError::MissingNow),
+            text.as_str()
+        )
     );
     Ok(())
 }

@@ -26,8 +26,8 @@ fn crud_is_cut_off_both_ends(rt: HostRuntime) {
 // What it shows of these mails.
 #[test]
 fn crud_between_the_ends_stays(rt: HostRuntime) {
-    for (part, due) in [
-        (b" .\"A, B;'".as_slice(), b"A, B".as_slice()),
+    const PARTS: [(&[u8], &[u8]); 8] = [
+        (b" .\"A, B;'", b"A, B"),
         (b"\\A\\B\\", b"A\\B"),
         (b"\"A \"B\" C\"", b"A \"B\" C"),
         (b"J\xf6rg\t", b"J\xf6rg"),
@@ -35,7 +35,8 @@ fn crud_between_the_ends_stays(rt: HostRuntime) {
         (b"A", b"A"),
         (b" \t.,", b""),
         (b"", b""),
-    ] {
+    ];
+    for &(part, due) in &PARTS {
         assert!(rt; trimmed(part) == due);
     }
 }
@@ -43,8 +44,8 @@ fn crud_between_the_ends_stays(rt: HostRuntime) {
 // The largest is 2 to the power of 64 less 1.
 #[test]
 fn numbers_have_64_bits(rt: HostRuntime) {
-    for (digits, value) in [
-        (b"0".as_slice(), Some(0)),
+    const NUMBERS: [(&[u8], Option<u64>); 9] = [
+        (b"0", Some(0)),
         (b"00042", Some(42)),
         (b"1660874655", Some(1_660_874_655)),
         (b"9223372036854775808", Some(1 << 63)),
@@ -53,7 +54,8 @@ fn numbers_have_64_bits(rt: HostRuntime) {
         (b"18446744073709551616", None),
         (b"99999999999999999999999999999999999999999999", None),
         (b"", Some(0)),
-    ] {
+    ];
+    for &(digits, value) in &NUMBERS {
         assert!(rt; number(digits) == value);
     }
 }

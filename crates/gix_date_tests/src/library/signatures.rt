@@ -1,16 +1,23 @@
 //! Signature lines, written to writers that count and fail.
+use crate::fakes::answers::{all_show, debugs};
 use crate::fakes::{Dribble, Slow, Small};
 use gix_date::Time;
 use gix_date::device::Device;
 use gix_date_callers::signature_caller::{author_time, redated};
 use gix_signature::{SignatureError, SignatureRef, laws, write_line};
-use std::io::ErrorKind;
+use std::io::{ErrorKind, Write};
 use std::test::Fail;
+
+/// How writing a line ends, and how often it calls its sink.
+fn sent(name: &str, mail: &str, time: Time) -> (Result<(), SignatureError>, usize) {
+    let mut out = Dribble::new(99);
+    let answer = write_line(name, mail, time, &mut out);
+    (answer, out.calls)
+}
 
 #[test]
 fn parts_are_refused_before_the_offset_and_both_before_a_byte(rt: HostRuntime) {
-    let wide = Time::new(0, 360_000);
-    for (name, mail) in [
+    for &(name, mail) in &[
         ("A<", "a"),
         ("A", "a>"),
         ("A\n", "a"),
@@ -18,113 +25,129 @@ fn parts_are_refused_before_the_offset_and_both_before_a_byte(rt: HostRuntime) {
         ("A", "<a"),
         (">", "a"),
     ] {
-        for time in [wide, Time::new(0, 0)] {
-            let mut out = Dribble::new(99);
+        for offset in [360_000, 0] {
+            let (answer, calls) = sent(name, mail, Time::new(0, offset));
             assert!(rt;
-                matches!(
-                    write_line(name, mail, time, &mut out),
-                    Err(SignatureError::BadPart)
-                ),
+                matches!(answer, Err(SignatureError::BadPart)),
                 "{name} {mail}"
             );
-            assert!(rt; out.calls == 0, "{name} {mail}");
+            assert!(rt; calls == 0, "{name} {mail}");
         }
     }
-    for time in [wide, Time::new(0, -360_000), Time::new(0, i32::MIN)] {
-        let mut out = Dribble::new(99);
-        assert!(rt;
-            matches!(
-                write_line("A", "a", time, &mut out),
-                Err(SignatureError::OffsetTooWide)
-            )
-        );
-        assert!(rt; out.calls == 0);
+}
+
+#[test]
+fn a_wide_offset_is_refused_before_a_byte(rt: HostRuntime) {
+    for offset in [360_000, -360_000, i32::MIN] {
+        let (answer, calls) = sent("A", "a", Time::new(0, offset));
+        assert!(rt; matches!(answer, Err(SignatureError::OffsetTooWide)));
+        assert!(rt; calls == 0);
     }
+}
+
+/// The kind by which a writer fails a short line, if it does, and what became of the writer.
+fn written_short<W: Write>(writer: W) -> (Option<ErrorKind>, W) {
+    let mut out = Device::new(writer);
+    let kind = match write_line("A", "a", Time::new(0, 0), &mut out) {
+        Err(SignatureError::Write(kind)) => Some(kind),
+        _ => None,
+    };
+    (kind, out.into_inner())
 }
 
 #[test]
 fn a_writer_that_fails_has_taken_a_prefix_of_the_line(rt: HostRuntime) {
     let line = b"A <a> 0 +0000";
     for room in 0..line.len() {
-        let mut out = Device::new(Slow::new(rt.alloc(), 2, room, ErrorKind::StorageFull));
-        assert!(rt;
-            matches!(
-                write_line("A", "a", Time::new(0, 0), &mut out),
-                Err(SignatureError::Write(ErrorKind::StorageFull))
-            ),
-            "{room}"
-        );
-        let inner = out.into_inner();
-        assert!(rt; inner.taken.as_slice() == &line[..room], "{room}");
-        assert!(rt; inner.flushes == 0, "{room}");
+        let writer = Slow::new(rt.alloc(), 2, room, ErrorKind::StorageFull);
+        let (kind, writer) = written_short(writer);
+        assert!(rt; kind == Some(ErrorKind::StorageFull), "{room}");
+        assert!(rt; writer.took(&line[..room]), "{room}");
+        assert!(rt; writer.flushes == 0, "{room}");
     }
-    let mut out = Device::new(Slow::new(rt.alloc(), 99, 3, ErrorKind::BrokenPipe));
-    assert!(rt;
-        matches!(
-            write_line("A", "a", Time::new(0, 0), &mut out),
-            Err(SignatureError::Write(ErrorKind::BrokenPipe))
-        )
-    );
-    assert!(rt; out.into_inner().taken.as_slice() == b"A <".as_slice());
+}
+
+#[test]
+fn a_pipe_that_breaks_has_taken_a_prefix_of_the_line(rt: HostRuntime) {
+    let writer = Slow::new(rt.alloc(), 99, 3, ErrorKind::BrokenPipe);
+    let (kind, writer) = written_short(writer);
+    assert!(rt; kind == Some(ErrorKind::BrokenPipe));
+    assert!(rt; writer.took(b"A <"));
 }
 
 #[test]
 fn an_authors_time_is_that_of_the_line(rt: HostRuntime) {
-    for (line, time) in [
-        (
-            "author A U Thor <author@example.com> 1660874655 +0800",
-            Some(Time::new(1_660_874_655, 28_800)),
-        ),
-        ("A U Thor <author@example.com> 1660874655 +0800", None),
-        ("author A U Thor", None),
-        ("author A <a> x", None),
+    let line = "author A U Thor <author@example.com> 1660874655 +0800";
+    assert!(rt;
+        author_time(line) == Some(Time::new(1_660_874_655, 28_800)),
+        "{line}"
+    );
+    for line in &[
+        "A U Thor <author@example.com> 1660874655 +0800",
+        "author A U Thor",
+        "author A <a> x",
     ] {
-        assert!(rt; author_time(line) == time, "{line}");
+        assert!(rt; author_time(line) == None, "{line}");
     }
 }
+
+const AUTHOR: &str = "A U Thor <author@example.com> 1660874655 +0800";
 
 #[test]
 fn a_line_with_another_time_has_its_name_and_mail(rt: HostRuntime) {
     let mut out = Device::new(Small::new());
-    let line = "A U Thor <author@example.com> 1660874655 +0800";
-    let answer = redated(line, Time::new(5, -5400), &mut out);
+    let answer = redated(AUTHOR, Time::new(5, -5400), &mut out);
     assert!(rt; matches!(answer, Ok(true)));
     assert!(rt;
         out.into_inner()
             .is(b"A U Thor <author@example.com> 5 -0130")
     );
+}
+
+#[test]
+fn a_line_gets_no_time_without_its_own_or_with_a_wide_offset(rt: HostRuntime) {
     let mut out = Dribble::new(99);
     assert!(rt; matches!(redated("A <a>", Time::new(0, 0), &mut out), Ok(false)));
-    let wide = redated(line, Time::new(0, 360_000), &mut out);
+    let wide = redated(AUTHOR, Time::new(0, 360_000), &mut out);
     assert!(rt; matches!(wide, Err(SignatureError::OffsetTooWide)));
     assert!(rt; out.calls == 0);
 }
 
 #[test]
-fn each_fault_of_a_line_says_what_is_wrong(rt: HostRuntime) -> Result<(), Fail> {
-    for (fault, text, debug) in [
-        (
-            SignatureError::BadPart,
-            "a name or mail may not hold `<`, `>`, a newline or NUL",
-            "BadPart",
-        ),
-        (
-            SignatureError::OffsetTooWide,
-            "an offset of 100 hours or more from UTC cannot be written",
-            "OffsetTooWide",
-        ),
-        (
-            SignatureError::Write(ErrorKind::BrokenPipe),
-            "writing failed: broken pipe",
-            "Write(BrokenPipe)",
-        ),
-    ] {
-        assert!(rt; format!(in rt.alloc(); "{fault}")?.as_str() == text);
-        assert!(rt; format!(in rt.alloc(); "{fault:?}")?.as_str() == debug);
-    }
+fn each_fault_of_a_line_says_what_is_wrong(rt: HostRuntime) {
+    all_show(
+        &rt,
+        rt.alloc(),
+        &[
+            (
+                SignatureError::BadPart,
+                "a name or mail may not hold `<`, `>`, a newline or NUL",
+                "BadPart",
+            ),
+            (
+                SignatureError::OffsetTooWide,
+                "an offset of 100 hours or more from UTC cannot be written",
+                "OffsetTooWide",
+            ),
+            (
+                SignatureError::Write(ErrorKind::BrokenPipe),
+                "writing failed: broken pipe",
+                "Write(BrokenPipe)",
+            ),
+        ],
+    );
+}
+
+#[test]
+fn a_line_has_a_debug_form(rt: HostRuntime) -> Result<(), Fail> {
     let parts = SignatureRef::from_line("A <a> 0 +0000").ok_or("a line")?;
-    let debug = format!(in rt.alloc(); "{parts:?}")?;
-    assert!(rt; debug.as_str() == "SignatureRef { name: \"A\", mail: \"a\", time: \"0 +0000\" }");
+    assert!(rt;
+        debugs(
+            rt.alloc(),
+            &parts,
+            "SignatureRef { name: \"A\", mail: \"a\", time: \"0 +0000\" }"
+        )
+    );
     Ok(())
 }
 

@@ -1,10 +1,10 @@
 //! Times as values.
+use crate::fakes::answers::reads;
 use gix_date::Time;
 use serde::{DeserializeOwned, Serialize};
 use std::alloc::Global;
 use std::cmp::Ordering;
 use std::hash::{BuildHasher, BuildHasherDefault, FoldHasher};
-use std::test::Fail;
 
 #[test]
 fn times_have_an_order(rt: HostRuntime) {
@@ -34,13 +34,13 @@ fn equal_times_hash_alike(rt: HostRuntime) {
 
 #[test]
 fn a_time_is_set_where_it_is_not_zero(rt: HostRuntime) {
-    let rows = [
+    const ROWS: [(&str, i64, i32, bool); 4] = [
         ("seconds-and-offset-zero", 0, 0, false),
         ("offset-set", 0, 1, true),
         ("seconds-set", 1, 0, true),
         ("both-set", -1, -1, true),
     ];
-    for (row, seconds, offset, set) in rows {
+    for &(row, seconds, offset, set) in &ROWS {
         assert!(rt; Time::new(seconds, offset).is_set() == set, "{row}");
     }
     assert!(rt; Time::default() == Time::new(0, 0));
@@ -51,7 +51,7 @@ fn a_time_is_set_where_it_is_not_zero(rt: HostRuntime) {
 fn a_time_says_whether_its_texts_are_read_back(rt: HostRuntime) {
     // 1000-01-01 00:00:00 is -30610224000 at UTC, and 86340 seconds earlier at +23:59. 253402207200 is `jiff`'s last
     // second.
-    let rows = [
+    const ROWS: [(&str, i64, i32, bool); 9] = [
         ("year-1000", -30_610_224_000, 0, true),
         ("year-999", -30_610_224_001, 0, false),
         ("year-1000-by-its-own-clock", -30_610_310_340, 86_340, true),
@@ -62,7 +62,7 @@ fn a_time_says_whether_its_texts_are_read_back(rt: HostRuntime) {
         ("offset-of-a-day", 0, -86_400, false),
         ("offset-of-odd-seconds", 0, 30, false),
     ];
-    for (row, seconds, offset, round_trips) in rows {
+    for &(row, seconds, offset, round_trips) in &ROWS {
         assert!(rt;
             Time::new(seconds, offset).round_trips() == round_trips,
             "{row}"
@@ -81,16 +81,15 @@ fn carried<T: Serialize + DeserializeOwned>(
 }
 
 #[test]
-fn a_time_is_carried_by_json(rt: HostRuntime) -> Result<(), Fail> {
+fn a_time_is_carried_by_json(rt: HostRuntime) {
     for time in [
         Time::MIN,
         Time::MAX,
         Time::default(),
         Time::new(1_660_874_655, 28_800),
     ] {
-        assert!(rt; carried(rt.alloc(), &time)? == time);
+        assert!(rt; carried(rt.alloc(), &time).ok() == Some(time));
     }
-    let text = serde_json::to_string(rt.alloc(), &Time::new(1_660_874_655, 28_800))?;
-    assert!(rt; text.as_str() == "{\"seconds\":1660874655,\"offset\":28800}");
-    Ok(())
+    let text = serde_json::to_string(rt.alloc(), &Time::new(1_660_874_655, 28_800));
+    assert!(rt; reads(text, "{\"seconds\":1660874655,\"offset\":28800}"));
 }
