@@ -1,5 +1,6 @@
 //! The callers in the documents, called as a program calls them.
 use crate::fakes::Dribble;
+use crate::fakes::answers::{Fault, fails, holds, reads};
 use crate::fakes::machine::Machine;
 use gix_date::device::Device;
 use gix_date::parsing::TimeBuf;
@@ -15,183 +16,188 @@ use gix_date_callers::more_callers::{
 use gix_date_callers::readme::{stored_time, written_again};
 use jiff::Timestamp;
 use jiff::tz::TimeZone;
-use std::io;
-use std::test::Fail;
+use std::io::ErrorKind;
+use std::rt::{Clock, Env, Files};
 
 #[test]
-fn a_header_is_written_again(rt: HostRuntime) -> Result<(), Error> {
-    assert!(rt; written_again("1660874655 +0800")?.as_str() == "1660874655 +0800");
-    assert!(rt; written_again("12abc +0100")?.as_str() == "12 +0100");
-    assert!(rt; matches!(written_again("yesterday"), Err(Error::InvalidTime)));
-    Ok(())
+fn a_header_is_written_again(rt: HostRuntime) {
+    assert!(rt; holds(written_again("1660874655 +0800"), "1660874655 +0800"));
+    assert!(rt; holds(written_again("12abc +0100"), "12 +0100"));
+    assert!(rt; fails(written_again("yesterday"), Fault::InvalidTime));
 }
 
 #[test]
-fn a_stored_time_is_read(rt: HostRuntime) -> Result<(), Error> {
-    let time = stored_time(rt.alloc(), "1660874655 +0800")?;
-    assert!(rt; time == Time::new(1_660_874_655, 28_800));
-    assert!(rt; matches!(stored_time(rt.alloc(), "yesterday"), Err(Error::MissingNow)));
-    Ok(())
+fn a_stored_time_is_read(rt: HostRuntime) {
+    let time = stored_time(rt.alloc(), "1660874655 +0800");
+    assert!(rt; time.ok() == Some(Time::new(1_660_874_655, 28_800)));
+    assert!(rt; fails(stored_time(rt.alloc(), "yesterday"), Fault::MissingNow));
 }
 
 #[test]
-fn callers_read_and_write_headers(rt: HostRuntime) -> Result<(), Fail> {
+fn callers_rewrite_and_write_headers(rt: HostRuntime) {
     let mut out = Device::new(Vec::new(rt.alloc()));
-    rewrite(" 12abc \t+0100\n", &mut out)?;
-    assert!(rt; matches!(rewrite("yesterday", &mut out), Err(Error::InvalidTime)));
-    assert!(rt; matches!(rewrite("0 +9999", &mut out), Err(Error::OffsetTooWide)));
+    assert!(rt; rewrite(" 12abc \t+0100\n", &mut out).is_ok());
+    assert!(rt; fails(rewrite("yesterday", &mut out), Fault::InvalidTime));
+    assert!(rt; fails(rewrite("0 +9999", &mut out), Fault::OffsetTooWide));
     assert!(rt; out.into_inner().as_slice() == b"12 +0100".as_slice());
     let mut full = Dribble::new(3);
-    assert!(rt;
-        matches!(
-            rewrite("12 +0100", &mut full),
-            Err(Error::Write(io::ErrorKind::StorageFull))
-        )
-    );
-    let header = header_bytes(rt.alloc(), Time::new(1_660_874_655, 28_800))?;
+    let cut = rewrite("12 +0100", &mut full);
+    assert!(rt; fails(cut, Fault::Write(ErrorKind::StorageFull)));
+    let header = header_bytes(rt.alloc(), Time::new(1_660_874_655, 28_800)).expect(&rt, "a header");
     assert!(rt; header.as_slice() == b"1660874655 +0800".as_slice());
     let wide = header_bytes(rt.alloc(), Time::new(0, 360_000));
-    assert!(rt; matches!(wide, Err(Error::OffsetTooWide)));
+    assert!(rt; fails(wide, Fault::OffsetTooWide));
+}
+
+#[test]
+fn callers_read_and_show_headers(rt: HostRuntime) {
     let canonical = read_canonical("1660874655 +0800");
     assert!(rt; canonical == Some(Time::new(1_660_874_655, 28_800)));
-    assert!(rt; read_canonical("0 -0000") == None);
-    assert!(rt; read_canonical("0 +0000 ") == None);
-    assert!(rt; read_canonical("yesterday") == None);
+    for text in &["0 -0000", "0 +0000 ", "yesterday"] {
+        assert!(rt; read_canonical(text) == None);
+    }
     let least = Time::new(i64::MIN, -359_940);
     assert!(rt; kept_in_header(least) == Some(least));
-    let mut buf = TimeBuf::default();
-    Time::new(0, -12_600).to_str(&mut buf)?;
-    assert!(rt; doubled(&buf)?.as_str() == "0 -0330");
-    assert!(rt; shown(rt.alloc(), Time::new(0, -12_600))?.as_str() == "0 -0330");
+    let time = Time::new(0, -12_600);
+    let buf = time.to_buf().expect(&rt, "a header");
+    assert!(rt; holds(doubled(&buf), "0 -0330"));
+    assert!(rt; reads(shown(rt.alloc(), time), "0 -0330"));
     assert!(rt; shown(rt.alloc(), Time::new(0, 360_000)).is_err());
-    Ok(())
 }
 
 #[test]
-fn callers_print_dates(rt: HostRuntime) -> Result<(), Fail> {
-    let logged = log_date(
-        rt.alloc(),
-        Time::new(1_659_933_906, 28_800),
-        format::DEFAULT,
-    )?;
-    assert!(rt; logged.as_str() == "Mon Aug 8 12:45:06 2022 +0800");
-    let beyond = log_date(rt.alloc(), Time::new(5, 93_600), format::DEFAULT)?;
-    assert!(rt; beyond.as_str() == "5");
-    let logged = log_text(Time::new(1_659_933_906, 28_800), format::DEFAULT);
-    assert!(rt; logged.as_str() == "Mon Aug 8 12:45:06 2022 +0800");
-    let beyond = log_text(Time::new(5, 93_600), format::DEFAULT);
-    assert!(rt; beyond.as_str() == "5");
-    let iso = iso_date(rt.alloc(), Time::new(1_660_874_655, 28_800))?;
-    assert!(rt; iso.as_str() == "2022-08-19 10:04:15 +0800");
-    assert!(rt; matches!(iso_date(rt.alloc(), Time::MAX), Err(Error::Conversion)));
-    Ok(())
+fn callers_print_dates(rt: HostRuntime) {
+    let logged = Time::new(1_659_933_906, 28_800);
+    let beyond = Time::new(5, 93_600);
+    let text = log_date(rt.alloc(), logged, format::DEFAULT);
+    assert!(rt; reads(text, "Mon Aug 8 12:45:06 2022 +0800"));
+    assert!(rt; reads(log_date(rt.alloc(), beyond, format::DEFAULT), "5"));
+    assert!(rt; log_text(logged, format::DEFAULT).as_str() == "Mon Aug 8 12:45:06 2022 +0800");
+    assert!(rt; log_text(beyond, format::DEFAULT).as_str() == "5");
+    let iso = iso_date(rt.alloc(), Time::new(1_660_874_655, 28_800));
+    assert!(rt; reads(iso, "2022-08-19 10:04:15 +0800"));
+    assert!(rt; fails(iso_date(rt.alloc(), Time::MAX), Fault::Conversion));
 }
 
 #[test]
-fn callers_parse_dates(rt: HostRuntime) -> Result<(), Fail> {
-    let date = absolute_date(rt.alloc(), "2018-12-24")?;
-    assert!(rt; date == Time::new(1_545_609_600, 0));
-    assert!(rt; matches!(absolute_date(rt.alloc(), "now"), Err(Error::MissingNow)));
+fn callers_parse_dates(rt: HostRuntime) {
+    let date = absolute_date(rt.alloc(), "2018-12-24");
+    assert!(rt; date.ok() == Some(Time::new(1_545_609_600, 0)));
+    assert!(rt; fails(absolute_date(rt.alloc(), "now"), Fault::MissingNow));
+    let typed = date_typed(rt.alloc(), "2 days ago", Time::new(1_698_400_800, 7200));
+    assert!(rt; typed.ok() == Some(Time::new(1_698_228_000, 7200)));
+    assert!(rt; fails(date_typed(rt.alloc(), "now", Time::MAX), Fault::Conversion));
     let wide = Time::new(i64::MIN, -86_340);
-    assert!(rt; matches!(kept_in_date(rt.alloc(), wide), Ok(kept) if kept == wide));
+    assert!(rt; kept_in_date(rt.alloc(), wide).ok() == Some(wide));
     let stored = stored_date(rt.alloc(), "1660797906 +0007");
-    assert!(rt; matches!(stored, Ok(time) if time == Time::new(1_660_797_906, 420)));
-    assert!(rt; !asks_for_a_moment("5 -0130"));
-    assert!(rt; !asks_for_a_moment("1700000000"));
-    assert!(rt; !asks_for_a_moment("banana"));
-    assert!(rt; !asks_for_a_moment("2008-02-14 20:30:45.2 days ago"));
+    assert!(rt; stored.ok() == Some(Time::new(1_660_797_906, 420)));
+    for text in &[
+        "5 -0130",
+        "1700000000",
+        "banana",
+        "2008-02-14 20:30:45.2 days ago",
+    ] {
+        assert!(rt; !asks_for_a_moment(text));
+    }
     assert!(rt; asks_for_a_moment("2 days ago"));
-    let typed = date_typed(rt.alloc(), "2 days ago", Time::new(1_698_400_800, 7200))?;
-    assert!(rt; typed == Time::new(1_698_228_000, 7200));
-    assert!(rt;
-        matches!(
-            date_typed(rt.alloc(), "now", Time::MAX),
-            Err(Error::Conversion)
-        )
-    );
-    Ok(())
 }
 
 #[test]
-fn callers_say_what_was_not_understood(rt: HostRuntime) -> Result<(), Fail> {
-    let zone = TimeZone::posix("EST5EDT,M3.2.0,M11.1.0")?;
-    let now = Timestamp::from_second(1_698_400_800)?.to_zoned(zone);
-    let meant = date_meant("2024-01-05 10:00", now);
-    assert!(rt; meant == Ok(Time::new(1_704_466_800, -18_000)));
-    assert!(rt; date_meant("2 hours ago", now) == Ok(Time::new(1_698_393_600, -14_400)));
-    assert!(rt; date_meant("30 min ago", now) == Err("min ago"));
-    assert!(rt; date_meant("2 weeks", now) == Err(""));
-    assert!(rt; date_meant("banana", now) == Err("banana"));
-    Ok(())
+fn callers_say_what_was_not_understood(rt: HostRuntime) {
+    let zone = TimeZone::posix("EST5EDT,M3.2.0,M11.1.0").expect(&rt, "a zone");
+    let now = Timestamp::from_second(1_698_400_800)
+        .expect(&rt, "an instant")
+        .to_zoned(zone);
+    for &(text, seconds, offset) in &[
+        ("2024-01-05 10:00", 1_704_466_800, -18_000),
+        ("2 hours ago", 1_698_393_600, -14_400),
+    ] {
+        assert!(rt; date_meant(text, now) == Ok(Time::new(seconds, offset)));
+    }
+    for &(text, rest) in &[
+        ("30 min ago", "min ago"),
+        ("2 weeks", ""),
+        ("banana", "banana"),
+    ] {
+        assert!(rt; date_meant(text, now) == Err(rest));
+    }
 }
 
 #[test]
-fn callers_ask_the_machine(rt: HostRuntime) -> Result<(), Fail> {
-    let clock = Timestamp::from_second(1_660_874_655)?;
+fn a_commit_has_the_clock_and_the_zone(rt: HostRuntime) {
+    let clock = Timestamp::from_second(1_660_874_655).expect(&rt, "an instant");
     assert!(rt; authored_in_utc(clock) == Time::new(1_660_874_655, 0));
-    let zone = TimeZone::posix("CST-8")?;
-    assert!(rt;
-        matches!(
-            authored(clock, Some(zone)),
-            Some(time) if time == Time::new(1_660_874_655, 28_800)
-        )
-    );
-    assert!(rt; matches!(commit_time(&rt), Ok(time) if time.seconds > 1_700_000_000));
-    assert!(rt; matches!(resolved(&rt, "@5 +0100"), Ok(Ok(time)) if time == Time::new(5, 3600)));
-    assert!(rt; matches!(resolved(&rt, "now"), Ok(Ok(time)) if time.seconds > 1_700_000_000));
+    let zone = TimeZone::posix("CST-8").expect(&rt, "a zone");
+    assert!(rt; authored(clock, Some(zone)) == Some(Time::new(1_660_874_655, 28_800)));
+}
+
+/// What a date means on a machine, if it is understood there.
+fn meant<R: Clock + Env + Files + AllocGlobal + Clone + Drop>(rt: &R, date: &str) -> Option<Time> {
+    match resolved(rt, date) {
+        Ok(Ok(time)) => Some(time),
+        _ => None,
+    }
+}
+
+#[test]
+fn callers_ask_the_machine(rt: HostRuntime) {
+    assert!(rt; matches!(commit_time(&rt).ok(), Some(time) if time.seconds > 1_700_000_000));
+    assert!(rt; meant(&rt, "@5 +0100") == Some(Time::new(5, 3600)));
+    assert!(rt; matches!(meant(&rt, "now"), Some(time) if time.seconds > 1_700_000_000));
     assert!(rt; matches!(resolved(&rt, "99999 years ago"), Ok(Err(Error::Range))));
-    Ok(())
 }
 
 #[test]
 fn callers_go_by_the_zone_of_the_machine(rt: HostRuntime) {
     let zone = "EST5EDT,M3.2.0,M11.1.0";
-    let machine = Machine::at(rt, 1_698_400_800, zone);
-    let now = Time::new(1_698_400_800, -14_400);
-    assert!(rt; matches!(commit_time(&machine), Ok(time) if time == now));
-    assert!(rt; matches!(resolved(&machine, "now"), Ok(Ok(time)) if time == now));
-    let later = Machine::at(rt, 1_701_000_000, zone);
-    let winter = Time::new(1_701_000_000, -18_000);
-    assert!(rt; matches!(commit_time(&later), Ok(time) if time == winter));
-    let month_before = Time::new(1_698_318_000, -14_400);
-    assert!(rt; matches!(resolved(&later, "1 month ago"), Ok(Ok(time)) if time == month_before));
+    for &(clock, seconds, offset, date, earlier) in &[
+        (1_698_400_800, 1_698_400_800, -14_400, "now", 1_698_400_800),
+        (
+            1_701_000_000,
+            1_701_000_000,
+            -18_000,
+            "1 month ago",
+            1_698_318_000,
+        ),
+    ] {
+        let machine = Machine::at(rt, clock, zone);
+        assert!(rt; commit_time(&machine).ok() == Some(Time::new(seconds, offset)));
+        assert!(rt; meant(&machine, date) == Some(Time::new(earlier, -14_400)));
+    }
 }
 
 #[test]
-fn times_are_kept_by_each_format_with_a_clock(rt: HostRuntime) -> Result<(), Fail> {
-    let now = Time::new(1_698_400_800, 0).to_zoned()?;
-    let time = Time::new(1_660_874_655, 28_800);
-    assert!(rt;
-        matches!(kept_by_each(rt.alloc(), time, None), Ok(times) if times == [Some(time); 6])
-    );
+fn times_are_kept_by_each_format_with_a_clock(rt: HostRuntime) {
+    let now = Time::new(1_698_400_800, 0)
+        .to_zoned()
+        .expect(&rt, "a moment");
     let before = Time::new(-1, -86_340);
-    assert!(rt;
-        matches!(kept_by_each(rt.alloc(), before, Some(now)), Ok(times) if times == [Some(before); 6])
-    );
-    let last = Time::new(253_402_207_199, 0);
-    assert!(rt;
-        matches!(kept_by_each(rt.alloc(), last, None), Ok(times) if times == [Some(last); 6])
-    );
-    let odd = Time::new(0, -30);
-    assert!(rt; matches!(kept_by_each(rt.alloc(), odd, None), Ok(times) if times == [None; 6]));
-    Ok(())
+    let kept = kept_by_each(rt.alloc(), before, Some(now));
+    assert!(rt; kept.ok() == Some([Some(before); 6]));
+    for &(seconds, offset) in &[(1_660_874_655, 28_800), (253_402_207_199, 0)] {
+        let time = Time::new(seconds, offset);
+        let kept = kept_by_each(rt.alloc(), time, None);
+        assert!(rt; kept.ok() == Some([Some(time); 6]));
+    }
+    let odd = kept_by_each(rt.alloc(), Time::new(0, -30), None);
+    assert!(rt; odd.ok() == Some([None; 6]));
 }
 
 #[test]
 fn a_day_before_has_the_same_offset(rt: HostRuntime) {
-    let time = Time::new(1_698_400_800, 90_000);
-    let before = Time::new(1_698_314_400, 90_000);
-    assert!(rt; matches!(day_before(rt.alloc(), time), Ok(day) if day == before));
-    let first = Time::new(-377_705_023_201, 0);
-    assert!(rt; matches!(day_before(rt.alloc(), first), Err(Error::Range)));
+    let day = day_before(rt.alloc(), Time::new(1_698_400_800, 90_000));
+    assert!(rt; day.ok() == Some(Time::new(1_698_314_400, 90_000)));
+    let first = day_before(rt.alloc(), Time::new(-377_705_023_201, 0));
+    assert!(rt; fails(first, Fault::Range));
 }
 
 #[test]
-fn a_day_before_in_a_zone_is_so_many_seconds_before(rt: HostRuntime) -> Result<(), Fail> {
+fn a_day_before_in_a_zone_is_so_many_seconds_before(rt: HostRuntime) {
     // The clock went ahead by an hour between.
-    let zone = TimeZone::posix("EST5EDT,M3.2.0,M11.1.0")?;
-    let moment = Timestamp::from_second(1_678_651_200)?.to_zoned(zone);
-    let before = Time::new(1_678_564_800, -18_000);
-    assert!(rt; matches!(day_before_in_zone(rt.alloc(), moment), Ok(day) if day == before));
-    Ok(())
+    let zone = TimeZone::posix("EST5EDT,M3.2.0,M11.1.0").expect(&rt, "a zone");
+    let moment = Timestamp::from_second(1_678_651_200)
+        .expect(&rt, "an instant")
+        .to_zoned(zone);
+    let day = day_before_in_zone(rt.alloc(), moment);
+    assert!(rt; day.ok() == Some(Time::new(1_678_564_800, -18_000)));
 }

@@ -2,7 +2,6 @@
 pub mod answers;
 pub mod harness;
 pub mod machine;
-pub mod words;
 
 use gix_date::device::Sink;
 use std::alloc::{AllocError, Global};
@@ -32,6 +31,17 @@ fn is_deepened() -> bool {
     str::from_utf8(pages.as_slice()).is_ok()
 }
 
+/// How often a byte stands in a text.
+pub fn count_of(byte: u8, text: &[u8]) -> usize {
+    let mut count = 0_usize;
+    for other in text {
+        if *other == byte {
+            count = count.saturating_add(1);
+        }
+    }
+    count
+}
+
 /// Takes all memory that there is, in ever smaller blocks, until the smallest is refused. It fails where it got none.
 pub fn take_all(alloc: Global) -> Result<Vec<Vec<u8>>, AllocError> {
     if !is_deepened() {
@@ -56,7 +66,7 @@ pub fn take_all(alloc: Global) -> Result<Vec<Vec<u8>>, AllocError> {
     Ok(blocks)
 }
 
-/// A writer that takes a few bytes a call, up to a limit, and then fails.
+/// A writer that takes a few bytes a call, up to a limit, and then fails, or takes none.
 #[derive(Drop)]
 pub struct Slow {
     pub taken: Vec<u8>,
@@ -64,18 +74,28 @@ pub struct Slow {
     pub flushes: usize,
     bytes_a_call: usize,
     room: usize,
-    kind: io::ErrorKind,
+    fault: Option<io::ErrorKind>,
 }
 
 impl Slow {
     pub fn new(alloc: Global, bytes_a_call: usize, room: usize, kind: io::ErrorKind) -> Slow {
+        Slow::ending(alloc, bytes_a_call, room, Some(kind))
+    }
+
+    /// One that takes no byte at its end if it has no fault.
+    pub fn ending(
+        alloc: Global,
+        bytes_a_call: usize,
+        room: usize,
+        fault: Option<io::ErrorKind>,
+    ) -> Slow {
         Slow {
             taken: Vec::new(alloc),
             calls: 0,
             flushes: 0,
             bytes_a_call,
             room,
-            kind,
+            fault,
         }
     }
 
@@ -95,7 +115,10 @@ impl Write for Slow {
         self.calls = self.calls.saturating_add(1);
         let room = self.room.saturating_sub(self.taken.len());
         if room == 0 {
-            return Err(io::Error::from(self.kind));
+            return match self.fault {
+                Some(kind) => Err(io::Error::from(kind)),
+                None => Ok(0),
+            };
         }
         let count = buf.len().min(self.bytes_a_call).min(room);
         self.taken.extend_from_slice(&buf[..count])?;
@@ -104,43 +127,6 @@ impl Write for Slow {
 
     fn flush(&mut self) -> io::Result<()> {
         self.flushes = self.flushes.saturating_add(1);
-        Ok(())
-    }
-}
-
-/// A writer that takes one byte a call, up to a limit, and then none.
-#[derive(Drop)]
-pub struct Halting {
-    pub taken: Vec<u8>,
-    pub calls: usize,
-    room: usize,
-}
-
-impl Halting {
-    pub fn new(alloc: Global, room: usize) -> Halting {
-        Halting {
-            taken: Vec::new(alloc),
-            calls: 0,
-            room,
-        }
-    }
-
-    /// Whether it took exactly this.
-    pub fn took(&self, text: &[u8]) -> bool {
-        self.taken.as_slice() == text
-    }
-}
-
-impl Write for Halting {
-    fn write(&mut self, buf: &[u8]) -> io::Result<usize> {
-        self.calls = self.calls.saturating_add(1);
-        let room = self.room.saturating_sub(self.taken.len());
-        let count = buf.len().min(1).min(room);
-        self.taken.extend_from_slice(&buf[..count])?;
-        Ok(count)
-    }
-
-    fn flush(&mut self) -> io::Result<()> {
         Ok(())
     }
 }
@@ -336,8 +322,8 @@ pub struct Replied<'a>(pub &'a Cell<usize>);
 
 impl Write for Replied<'_> {
     fn write(&mut self, buf: &[u8]) -> io::Result<usize> {
-        let lines = buf.iter().filter(|b| **b == b'\n').count();
-        self.0.set(self.0.get().saturating_add(lines));
+        self.0
+            .set(self.0.get().saturating_add(count_of(b'\n', buf)));
         Ok(buf.len())
     }
 

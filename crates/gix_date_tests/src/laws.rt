@@ -1,6 +1,5 @@
 //! Laws, called where what they require is known, for nothing but what they state.
 use gix_date::{RawOffsets, Time, laws};
-use std::test::Fail;
 
 #[test]
 fn laws_are_called_for_nothing_but_what_they_state() {
@@ -19,8 +18,10 @@ fn laws_are_called_for_what_they_state_of_a_time() {
 
 #[test]
 #[tactic(auto, using(gix_date::proofs::Relative::FixedTimes::moment_fixed))]
-fn laws_are_called_for_what_they_state_of_a_moment(rt: HostRuntime) -> Result<(), Fail> {
-    let moment = Time::new(1_660_874_655, 28_800).to_zoned()?;
+fn laws_are_called_for_what_they_state_of_a_moment(rt: HostRuntime) {
+    let moment = Time::new(1_660_874_655, 28_800)
+        .to_zoned()
+        .expect(&rt, "a moment");
     laws::yesterday(&moment);
     // A pair of each period, and of none of it.
     laws::seconds_permute(
@@ -32,15 +33,8 @@ fn laws_are_called_for_what_they_state_of_a_moment(rt: HostRuntime) -> Result<()
     if day <= 28 {
         laws::months_add(&moment, &[(0, 1), (1, 12), (2, 1)]);
     }
-    Ok(())
-}
-
-#[test]
-fn laws_of_headlines_are_called_for_what_they_state(rt: HostRuntime) -> Result<(), Fail> {
-    let moment = Time::new(1_660_874_655, 28_800).to_zoned()?;
     let parsed = laws::headline(rt.alloc(), "5 -0130", Some(moment));
     assert!(rt; parsed.ok() == Some(Time::new(5, -5400)));
     let wide = laws::headline_with(rt.alloc(), "5 +0007", None, RawOffsets::WholeMinutes);
     assert!(rt; wide.ok() == Some(Time::new(5, 420)));
-    Ok(())
 }

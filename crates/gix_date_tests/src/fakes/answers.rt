@@ -1,5 +1,6 @@
 //! What calls answer, compared apart from the tests: a test that held the texts would drop each on every path that leaves it.
 use gix_date::Error;
+use gix_date::parsing::TimeBuf;
 use std::alloc::Global;
 use std::fmt::{Debug, Display};
 use std::io::ErrorKind;
@@ -49,6 +50,11 @@ pub fn reads<E: Drop>(answer: Result<String, E>, text: &str) -> bool {
         Ok(read) => read.as_str() == text,
         Err(_) => false,
     }
+}
+
+/// Whether a call answers a buffer of this header.
+pub fn holds<E: Drop>(answer: Result<TimeBuf, E>, header: &str) -> bool {
+    matches!(answer.ok(), Some(buf) if buf.as_str() == header)
 }
 
 /// Whether this text shows the value.

@@ -1,4 +1,4 @@
-//! A machine of a given clock and zone, perhaps a faulty one, which takes memory and files from the one that the tests run on.
+//! A machine of a given clock, zone and command line, perhaps a faulty one, which takes memory and files from the one that the tests run on.
 use std::alloc::{Allocator, Global};
 use std::env::FillError;
 use std::fs::{Metadata, OpenOptions};
@@ -15,6 +15,8 @@ pub struct Machine {
     pub zone: &'static str,
     /// What any path opens: as if its file were replaced once it was looked at.
     pub opened: Option<&'static str>,
+    /// Its command line, the program's name first.
+    pub words: &'static [&'static [u8]],
 }
 
 impl Machine {
@@ -25,6 +27,15 @@ impl Machine {
             seconds: Some(seconds),
             zone,
             opened: None,
+            words: &[],
+        }
+    }
+
+    /// One that gives these words as its command line.
+    pub fn called(rt: HostRuntime, words: &'static [&'static [u8]]) -> Machine {
+        Machine {
+            words,
+            ..Machine::at(rt, 0, "UTC0")
         }
     }
 }
@@ -52,7 +63,14 @@ impl Clock for Machine {
 
 impl Env for Machine {
     fn arg(&self, i: usize, buf: &mut [u8]) -> Result<usize, FillError> {
-        self.rt.arg(i, buf)
+        let Some(word) = self.words.get(i) else {
+            return Err(FillError::NotPresent);
+        };
+        if word.len() > buf.len() {
+            return Err(FillError::TooLong);
+        }
+        buf[..word.len()].copy_from_slice(word);
+        Ok(word.len())
     }
 
     fn var(&self, name: &str, buf: &mut [u8]) -> Result<usize, FillError> {

@@ -6,12 +6,11 @@ use git_date::{
 use gix_date::Time;
 use jiff::Timestamp;
 use jiff::tz::Offset;
-use std::test::Fail;
 
 // What Git 2.39.5 shows by `--date=relative` at 2033-05-18 03:33:20 UTC: so many seconds before.
 #[test]
-fn an_age_has_the_unit_that_git_chooses(rt: HostRuntime) -> Result<(), Fail> {
-    let now = Timestamp::from_second(2_000_000_000)?;
+fn an_age_has_the_unit_that_git_chooses(rt: HostRuntime) {
+    let now = Timestamp::from_second(2_000_000_000).expect(&rt, "an instant");
     for &(before, age) in &[
         (0, Age::Seconds(0)),
         (89, Age::Seconds(89)),
@@ -26,12 +25,11 @@ fn an_age_has_the_unit_that_git_chooses(rt: HostRuntime) -> Result<(), Fail> {
         let time = Time::new(2_000_000_000_i64.saturating_sub(before), -5400);
         assert!(rt; age_at(time, now) == Ok(Some(age)));
     }
-    Ok(())
 }
 
 #[test]
-fn an_age_is_of_a_time_from_1970_on(rt: HostRuntime) -> Result<(), Fail> {
-    let now = Timestamp::from_second(5)?;
+fn an_age_is_of_a_time_from_1970_on(rt: HostRuntime) {
+    let now = Timestamp::from_second(5).expect(&rt, "an instant");
     for &(seconds, offset, age) in &[
         (6, 0, Ok(None)),
         (i64::MAX, 0, Ok(None)),
@@ -41,9 +39,8 @@ fn an_age_is_of_a_time_from_1970_on(rt: HostRuntime) -> Result<(), Fail> {
     ] {
         assert!(rt; age_at(Time::new(seconds, offset), now) == age);
     }
-    let before = Timestamp::from_second(-1)?;
+    let before = Timestamp::from_second(-1).expect(&rt, "an instant");
     assert!(rt; age_at(Time::new(0, 0), before) == Err(DateError::Range));
-    Ok(())
 }
 
 // Hours of 3600 seconds and minutes of 60.
@@ -58,10 +55,6 @@ fn offsets_are_said_by_decimals(rt: HostRuntime) {
     ] {
         assert!(rt; offset_of_decimal(decimal) == offset && decimal_of_offset(offset) == decimal);
     }
-}
-
-#[test]
-fn no_decimal_and_no_offset_is_too_large(rt: HostRuntime) {
     for &(decimal, offset) in &[
         (99, 5940),
         (59_652_315, 2_147_483_647),
@@ -76,14 +69,15 @@ fn no_decimal_and_no_offset_is_too_large(rt: HostRuntime) {
 
 // What Git 2.39.5 shows by `format:` and `format-local:` where `TZ` is `UTC+4:30`.
 #[test]
-fn a_format_goes_by_the_time_or_the_zone(rt: HostRuntime) -> Result<(), Fail> {
-    let zone = Offset::from_seconds(-16_200)?.to_time_zone();
-    let format = DateFormat::new("%Y-%m-%d %H:%M %z")?;
+fn a_format_goes_by_the_time_or_the_zone(rt: HostRuntime) {
+    let zone = Offset::from_seconds(-16_200)
+        .expect(&rt, "an offset")
+        .to_time_zone();
+    let format = DateFormat::new("%Y-%m-%d %H:%M %z").expect(&rt, "a format");
     let time = Time::new(1_251_660_000, 7200);
     let own = text_by_format_in(rt.alloc(), time, format, false, zone);
     assert!(rt; reads(own, "2009-08-30 21:20 +0200"));
     let local = text_by_format_in(rt.alloc(), time, format, true, zone);
     assert!(rt; reads(local, "2009-08-30 14:50 -0430"));
     assert!(rt; text_by_format_in(rt.alloc(), Time::new(-1, 0), format, true, zone).is_err());
-    Ok(())
 }

@@ -6,7 +6,6 @@ use std::alloc::{AllocError, Global};
 use std::io::ErrorKind;
 use std::process::Abort;
 use std::str;
-use std::test::Fail;
 
 const NO_MOMENT: &str = "the date needs a moment, and none was given";
 
@@ -23,12 +22,11 @@ const UNKNOWN_X: &str =
      \"2 weeks ago\"";
 
 #[test]
-fn a_refused_text_shows_as_itself(rt: HostRuntime) -> Result<(), Fail> {
-    let input = refused(rt.alloc(), "1:2 \u{e9}", None).ok_or("a date")?;
+fn a_refused_text_shows_as_itself(rt: HostRuntime) {
+    let input = refused(rt.alloc(), "1:2 \u{e9}", None).expect(&rt, "a date");
     assert!(rt; input.as_bytes() == b"1:2 \xc3\xa9".as_slice());
     assert!(rt; shows(rt.alloc(), &input, "1:2 \u{e9}"));
     assert!(rt; debug_has(rt.alloc(), &input, ""));
-    Ok(())
 }
 
 /// The two faults that carry this text.
@@ -50,25 +48,23 @@ fn is_quoted_in_one_line(rt: &impl Abort, alloc: Global, fault: &Error) -> Resul
 }
 
 #[test]
-fn a_refused_text_is_shown_quoted_in_one_line(rt: HostRuntime) -> Result<(), Fail> {
-    let faults = carrying(rt.alloc(), "1\n \"2\"").ok_or("a date")?;
+fn a_refused_text_is_shown_quoted_in_one_line(rt: HostRuntime) {
+    let faults = carrying(rt.alloc(), "1\n \"2\"").expect(&rt, "a date");
     for fault in &faults {
-        is_quoted_in_one_line(&rt, rt.alloc(), fault)?;
+        is_quoted_in_one_line(&rt, rt.alloc(), fault).expect(&rt, "memory");
     }
-    Ok(())
 }
 
 #[test]
-fn a_text_of_any_length_comes_back(rt: HostRuntime) -> Result<(), Fail> {
+fn a_text_of_any_length_comes_back(rt: HostRuntime) {
     for length in [1, 26, 27, 255, 256, 4095, 65_537, 1_000_000] {
-        let bytes = vec![in rt.alloc(); b'x'; length]?;
+        let bytes = vec![in rt.alloc(); b'x'; length].expect(&rt, "memory");
         let text = str::from_utf8(bytes.as_slice()).unwrap_or("0");
         assert!(rt;
             text.len() == length && comes_back(rt.alloc(), text, None),
             "{length}"
         );
     }
-    Ok(())
 }
 
 #[test]
@@ -106,8 +102,8 @@ fn each_fault_says_what_is_wrong(rt: HostRuntime) {
 }
 
 #[test]
-fn a_refused_text_stands_in_its_fault(rt: HostRuntime) -> Result<(), Fail> {
-    let faults = carrying(rt.alloc(), "x").ok_or("a date")?;
+fn a_refused_text_stands_in_its_fault(rt: HostRuntime) {
+    let faults = carrying(rt.alloc(), "x").expect(&rt, "a date");
     assert!(rt; shows(rt.alloc(), &faults[0], UNKNOWN_X));
     assert!(rt;
         shows(
@@ -116,7 +112,6 @@ fn a_refused_text_stands_in_its_fault(rt: HostRuntime) -> Result<(), Fail> {
             "the date is beyond the last instant that can be computed with: \"x\""
         )
     );
-    Ok(())
 }
 
 #[test]

@@ -9,7 +9,6 @@ use gix_date::device::Device;
 use gix_date::{Time, Zoned};
 use std::alloc::{AllocError, Global};
 use std::io::{ErrorKind, Write};
-use std::test::Fail;
 
 /// Sunday, 2009-08-30 19:20:00 in UTC.
 const TIME: Time = Time {
@@ -45,10 +44,6 @@ fn each_fault_of_a_format_says_what_is_wrong(rt: HostRuntime) {
             ),
         ],
     );
-}
-
-#[test]
-fn each_fault_of_showing_says_what_is_wrong(rt: HostRuntime) {
     all_show(
         &rt,
         rt.alloc(),
@@ -69,9 +64,9 @@ fn each_fault_of_showing_says_what_is_wrong(rt: HostRuntime) {
 }
 
 #[test]
-fn a_format_may_be_used_many_times(rt: HostRuntime) -> Result<(), Fail> {
-    let now = TIME.to_zoned()?;
-    let format = DateFormat::new("%F %R")?;
+fn a_format_may_be_used_many_times(rt: HostRuntime) {
+    let now = TIME.to_zoned().expect(&rt, "a moment");
+    let format = DateFormat::new("%F %R").expect(&rt, "a format");
     let copied = format;
     assert!(rt; format.as_str() == "%F %R");
     assert!(rt; debugs(rt.alloc(), &copied, "DateFormat { text: \"%F %R\" }"));
@@ -79,22 +74,16 @@ fn a_format_may_be_used_many_times(rt: HostRuntime) -> Result<(), Fail> {
     assert!(rt; reads(text, "2009-08-30 21:20"));
     let text = text_by_format(rt.alloc(), Time::new(0, 0), copied, false, now);
     assert!(rt; reads(text, "1970-01-01 00:00"));
-    Ok(())
 }
 
 #[test]
-fn a_format_shows_short_texts_without_memory(rt: HostRuntime) -> Result<(), Fail> {
-    let now = TIME.to_zoned()?;
+fn a_format_shows_short_texts_without_memory(rt: HostRuntime) {
+    let now = TIME.to_zoned().expect(&rt, "a moment");
     let mut short = ShortText::new();
     assert!(rt; short_by_format(TIME, LONG, false, now.time_zone(), &mut short));
     assert!(rt; short.as_str().as_bytes() == LONG_TEXT);
     assert!(rt; short_by_format(Time::new(0, 0), "%F %R", true, now.time_zone(), &mut short));
     assert!(rt; short.as_str() == "1970-01-01 02:00");
-    Ok(())
-}
-
-#[test]
-fn a_format_shows_brief_texts_by_the_clock_of_the_time(rt: HostRuntime) {
     let mut brief = BriefText::new();
     assert!(rt; brief_by_own_clock(TIME, LONG, &mut brief));
     assert!(rt; brief.as_str().as_bytes() == LONG_TEXT);
@@ -103,8 +92,8 @@ fn a_format_shows_brief_texts_by_the_clock_of_the_time(rt: HostRuntime) {
 }
 
 #[test]
-fn a_text_is_not_short_with_a_fault_or_without_room(rt: HostRuntime) -> Result<(), Fail> {
-    let zone = TIME.to_zoned()?.time_zone();
+fn a_text_is_not_short_with_a_fault_or_without_room(rt: HostRuntime) {
+    let zone = TIME.to_zoned().expect(&rt, "a moment").time_zone();
     let mut short = ShortText::new();
     let mut brief = BriefText::new();
     for &(seconds, offset, format) in &[
@@ -120,7 +109,6 @@ fn a_text_is_not_short_with_a_fault_or_without_room(rt: HostRuntime) -> Result<(
     }
     assert!(rt; short_by_format(TIME, "%c%c%c%c%c%c", false, zone, &mut short));
     assert!(rt; !brief_by_own_clock(TIME, "%c%c%c%c%c%c", &mut brief));
-    Ok(())
 }
 
 /// How showing a time ends over a writer, and what became of the writer.
@@ -136,9 +124,9 @@ fn shown_to<W: Write>(
 }
 
 #[test]
-fn a_clock_that_is_not_shown_writes_nothing(rt: HostRuntime) -> Result<(), Fail> {
-    let now = TIME.to_zoned()?;
-    let format = DateFormat::new("seconds: %s")?;
+fn a_clock_that_is_not_shown_writes_nothing(rt: HostRuntime) {
+    let now = TIME.to_zoned().expect(&rt, "a moment");
+    let format = DateFormat::new("seconds: %s").expect(&rt, "a format");
     for seconds in [-1, 4_102_444_800] {
         let time = Time::new(seconds, 0);
         let (answer, bytes) = shown_to(time, format, now, Vec::new(rt.alloc()));
@@ -147,51 +135,39 @@ fn a_clock_that_is_not_shown_writes_nothing(rt: HostRuntime) -> Result<(), Fail>
         let text = text_by_format(rt.alloc(), time, format, false, now);
         assert!(rt; text.err() == Some(ShowError::Range));
     }
-    Ok(())
 }
 
 #[test]
-fn a_shown_date_fails_at_each_of_its_writes(rt: HostRuntime) -> Result<(), Fail> {
-    let now = TIME.to_zoned()?;
-    let format = DateFormat::new(LONG)?;
-    for taken in 0..LONG_TEXT.len() {
-        let writer = Slow::new(rt.alloc(), 1, taken, ErrorKind::StorageFull);
-        let (answer, writer) = shown_to(TIME, format, now, writer);
-        assert!(rt;
-            answer == Err(ShowError::Write(ErrorKind::StorageFull)),
-            "{taken}"
-        );
-        assert!(rt; writer.took(&LONG_TEXT[..taken]), "{taken}");
-    }
-    Ok(())
-}
-
-#[test]
-fn a_shown_date_is_written_whole_in_pieces_of_any_length(rt: HostRuntime) -> Result<(), Fail> {
-    let now = TIME.to_zoned()?;
-    let format = DateFormat::new(LONG)?;
+fn a_shown_date_fails_at_each_of_its_writes(rt: HostRuntime) {
+    let now = TIME.to_zoned().expect(&rt, "a moment");
+    let format = DateFormat::new(LONG).expect(&rt, "a format");
     for a_call in [1, 3, 99] {
-        let writer = Slow::new(rt.alloc(), a_call, 99, ErrorKind::Other);
-        let (answer, writer) = shown_to(TIME, format, now, writer);
-        assert!(rt; answer == Ok(()), "{a_call}");
-        assert!(rt; writer.took(LONG_TEXT), "{a_call}");
+        for room in 0..=LONG_TEXT.len() {
+            let due = if room < LONG_TEXT.len() {
+                Err(ShowError::Write(ErrorKind::StorageFull))
+            } else {
+                Ok(())
+            };
+            let writer = Slow::new(rt.alloc(), a_call, room, ErrorKind::StorageFull);
+            let (answer, writer) = shown_to(TIME, format, now, writer);
+            assert!(rt; answer == due, "{a_call}, {room}");
+            assert!(rt; writer.took(&LONG_TEXT[..room]), "{a_call}, {room}");
+        }
     }
-    Ok(())
 }
 
 #[test]
-fn a_shown_date_that_is_refused_memory_is_refused(rt: HostRuntime) -> Result<(), Fail> {
-    let now = TIME.to_zoned()?;
-    let format = DateFormat::new("%Y")?;
-    let none = DateFormat::new("")?;
-    let blocks = take_all(rt.alloc())?;
+fn a_shown_date_that_is_refused_memory_is_refused(rt: HostRuntime) {
+    let now = TIME.to_zoned().expect(&rt, "a moment");
+    let format = DateFormat::new("%Y").expect(&rt, "a format");
+    let none = DateFormat::new("").expect(&rt, "a format");
+    let blocks = take_all(rt.alloc()).expect(&rt, "memory");
     let refused = text_by_format(rt.alloc(), TIME, format, false, now).err();
     let range = text_by_format(rt.alloc(), Time::new(-1, 0), format, false, now).err();
     let is_empty = reads(text_by_format(rt.alloc(), TIME, none, false, now), "");
     drop(blocks);
     assert!(rt; refused == Some(ShowError::Memory), "no-memory");
     assert!(rt; range == Some(ShowError::Range) && is_empty, "no-memory");
-    Ok(())
 }
 
 /// How the long text is made where no memory is left but a piece of so many bytes: whether it is refused, and whether it is right.
@@ -213,17 +189,16 @@ fn made_in(
 }
 
 #[test]
-fn a_shown_date_that_is_refused_a_growth_is_refused(rt: HostRuntime) -> Result<(), Fail> {
-    let now = TIME.to_zoned()?;
-    let format = DateFormat::new(LONG)?;
+fn a_shown_date_that_is_refused_a_growth_is_refused(rt: HostRuntime) {
+    let now = TIME.to_zoned().expect(&rt, "a moment");
+    let format = DateFormat::new(LONG).expect(&rt, "a format");
     let (mut all_right, mut some_refused, mut some_shown) = (true, false, false);
     // The text has 67 bytes.
     for size in [1, 16, 66, 4096] {
-        let (refused, shown) = made_in(rt.alloc(), size, format, now)?;
+        let (refused, shown) = made_in(rt.alloc(), size, format, now).expect(&rt, "memory");
         all_right = all_right && refused != shown;
         some_refused = some_refused || refused;
         some_shown = some_shown || shown;
     }
     assert!(rt; all_right && some_refused && some_shown, "little-memory");
-    Ok(())
 }

@@ -5,38 +5,29 @@ use gix_date::Time;
 use gix_date::device::Device;
 use gix_signature::{FsckFault, FsckId, IdentFault, IdentRef, fsck_of, laws, write_ident};
 use std::io::{ErrorKind, Write};
-use std::test::Fail;
 
 #[test]
-fn a_line_in_latin_1_is_shown(rt: HostRuntime) -> Result<(), Fail> {
-    let ident = IdentRef::from_bytes(b"J\xf6rg \t<j@e> 5 +0100").ok_or("an identity")?;
+fn a_line_in_latin_1_is_shown(rt: HostRuntime) {
+    let ident = IdentRef::from_bytes(b"J\xf6rg \t<j@e> 5 +0100").expect(&rt, "an identity");
     assert!(rt; ident.name == b"J\xf6rg".as_slice());
     assert!(rt; ident.mail == b"j@e".as_slice());
-    Ok(())
-}
-
-#[test]
-fn a_line_has_the_date_that_git_reads(rt: HostRuntime) -> Result<(), Fail> {
-    let ident = IdentRef::from_bytes(b"J\xf6rg \t<j@e> 5 +0100").ok_or("an identity")?;
-    let date = ident.date.ok_or("a date")?;
+    let date = ident.date.expect(&rt, "a date");
     assert!(rt; date.seconds == b"5".as_slice());
     assert!(rt; date.offset == b"+0100".as_slice());
     let time = date.git_time();
     assert!(rt; (time.seconds, time.offset) == (5, 100));
     assert!(rt; time.to_time().ok() == Some(Time::new(5, 3600)));
-    Ok(())
 }
 
 #[test]
-fn a_line_without_a_date_or_an_identity_says_so(rt: HostRuntime) -> Result<(), Fail> {
+fn a_line_without_a_date_or_an_identity_says_so(rt: HostRuntime) {
     const OTHERS: [&[u8]; 4] = [b"A a> 5 +0000", b"A <a 5 +0000", b"", b"A\0 <a> 5 +0000"];
-    let ident = IdentRef::from_bytes(b"Foo Bar <foo@bar.com>\n5 +0000").ok_or("an identity")?;
+    let ident = IdentRef::from_bytes(b"Foo Bar <foo@bar.com>\n5 +0000").expect(&rt, "an identity");
     assert!(rt; ident.name == b"Foo Bar".as_slice());
     assert!(rt; ident.date.is_none());
     for line in &OTHERS {
         assert!(rt; IdentRef::from_bytes(line).is_none());
     }
-    Ok(())
 }
 
 #[test]

@@ -42,10 +42,6 @@ fn usual_headers_are_found(rt: HostRuntime) {
         assert!(rt; canonical_line(bytes) == Some(rest));
         assert!(rt; unknown_line(bytes).is_none());
     }
-}
-
-#[test]
-fn the_longest_usual_header_has_the_greatest_length(rt: HostRuntime) {
     let longest = b"1234567890123456 +9959\n".as_slice();
     assert!(rt; matches!(split_line(longest), Some((line, _)) if line.len() == MAX_HEADER));
 }

@@ -10,7 +10,6 @@ use gix_date::{
 use gix_date_callers::more_callers::short_month;
 use gix_date_tool::Mode;
 use std::alloc::Global;
-use std::test::Fail;
 
 /// The two numbers of a time.
 fn parts(time: Time) -> (SecondsSinceUnixEpoch, OffsetInSeconds) {
@@ -43,20 +42,15 @@ fn names_stand_at_the_root(rt: HostRuntime) {
     assert!(rt; parts(Time::new(5, -60)) == (5, -60));
     assert!(rt; longest() == 26);
     assert!(rt; TimeBuf::default().as_str() == "");
-}
-
-#[test]
-fn refusals_stand_at_the_root(rt: HostRuntime) -> Result<(), Fail> {
-    let moment = Time::new(5, -60).to_zoned()?;
+    let moment = Time::new(5, -60).to_zoned().expect(&rt, "a moment");
     assert!(rt; comes_back(rt.alloc(), "1:2", Some(moment)));
     let refusal = gix_date::parsing::parse_no_alloc("1:2", Some(moment), RawOffsets::Quarter);
     assert!(rt; refusal == Err(ParseError::UnknownFormat));
-    Ok(())
 }
 
 #[test]
 fn words_tell_months(rt: HostRuntime) {
-    const WORDS: [(&[u8], Option<&str>); 7] = [
+    const MONTHS: [(&[u8], Option<&str>); 7] = [
         (b"august", Some("Aug")),
         (b"SEPT", Some("Sep")),
         (b"may", Some("May")),
@@ -65,27 +59,23 @@ fn words_tell_months(rt: HostRuntime) {
         (b"augusta", None),
         (b"", None),
     ];
-    for &(word, month) in &WORDS {
+    for &(word, month) in &MONTHS {
         assert!(rt; short_month(word) == month, "{word:?}");
     }
 }
 
 #[test]
 fn words_tell_days(rt: HostRuntime) {
-    const WORDS: [(&[u8], Option<u8>); 4] = [
+    const DAYS: [(&[u8], Option<u8>); 4] = [
         (b"Mondays", Some(0)),
         (b"tue", Some(1)),
         (b"SUNDAY", Some(6)),
         (b"frid!", None),
     ];
-    for &(word, day) in &WORDS {
+    for &(word, day) in &DAYS {
         assert!(rt; weekday_told(word) == day, "{word:?}");
     }
     assert!(rt; (day_name(0), day_name(6)) == ("Mon", "Sun"));
-}
-
-#[test]
-fn words_are_names_or_begin_them(rt: HostRuntime) {
     assert!(rt; is_name(b"NOON", b"noon") && !is_name(b"noo", b"noon"));
     assert!(rt; begins(b"noo", b"NOON") && begins(b"", b"") && !begins(b"noons", b"noon"));
 }
@@ -103,10 +93,6 @@ fn types_have_the_traits_that_callers_count_on(rt: HostRuntime) {
     assert!(rt; !same(&RawOffsets::Quarter, &RawOffsets::WholeMinutes));
     assert!(rt; same(&ParseError::Range, &ParseError::Range));
     assert!(rt; !same(&ParseError::Range, &ParseError::MissingNow));
-}
-
-#[test]
-fn a_buffer_that_is_lent_is_copied(rt: HostRuntime) {
     let time = gix_date::time::Time::new(5, -60);
     let mut buf = TimeBuf::default();
     assert!(rt; time.to_str(&mut buf).is_ok());
@@ -140,7 +126,7 @@ fn formats_have_names(rt: HostRuntime) {
 }
 
 #[test]
-fn careful_options_are_as_told(rt: HostRuntime) {
+fn careful_options_and_refusals_are_as_told(rt: HostRuntime) {
     let options = CarefulOptions::default();
     assert!(rt; options.raw == RawOffsets::Quarter);
     assert!(rt; options.without_offset == WithoutOffset::Utc);
@@ -152,10 +138,6 @@ fn careful_options_are_as_told(rt: HostRuntime) {
             "CarefulOptions { raw: Quarter, without_offset: Utc, texts: Careful }"
         )
     );
-}
-
-#[test]
-fn careful_refusals_are_as_told(rt: HostRuntime) {
     for &(text, refusal) in &[
         ("30 min ago", CarefulError::Unclear(3)),
         ("banana", CarefulError::Refused(ParseError::UnknownFormat)),
@@ -167,7 +149,7 @@ fn careful_refusals_are_as_told(rt: HostRuntime) {
 }
 
 #[test]
-fn each_careful_refusal_says_what_is_wrong(rt: HostRuntime) -> Result<(), Fail> {
+fn each_careful_refusal_says_what_is_wrong(rt: HostRuntime) {
     for &(refusal, text) in &[
         (
             CarefulError::Unclear(3),
@@ -181,7 +163,7 @@ fn each_careful_refusal_says_what_is_wrong(rt: HostRuntime) -> Result<(), Fail> 
     ] {
         assert!(rt; shows(rt.alloc(), &refusal, text));
     }
-    let text = format!(in rt.alloc(); "{}", ParseError::MissingNow)?;
+    let text = format!(in rt.alloc(); "{}", ParseError::MissingNow).expect(&rt, "memory");
     assert!(rt;
         shows(
             rt.alloc(),
@@ -189,5 +171,4 @@ fn each_careful_refusal_says_what_is_wrong(rt: HostRuntime) -> Result<(), Fail> 
             text.as_str()
         )
     );
-    Ok(())
 }

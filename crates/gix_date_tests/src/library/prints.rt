@@ -5,7 +5,6 @@ use gix_date::Time;
 use gix_date::time::format::{ISO8601, RAW, UNIX};
 use gix_date::time::{CustomFormat, Format};
 use std::alloc::{AllocError, Global};
-use std::test::Fail;
 
 const ISO: Format = Format::Custom(ISO8601);
 
@@ -23,7 +22,7 @@ fn a_format_may_have_any_pattern(rt: HostRuntime) {
     }
 }
 
-// What Git 2.39.5 prints.
+// What Git 2.39.5 prints. The bounds of four-digit years are Python's.
 #[test]
 fn named_formats_have_texts_by_value(rt: HostRuntime) {
     let time = Time::new(1_660_874_655, 28_800);
@@ -33,11 +32,6 @@ fn named_formats_have_texts_by_value(rt: HostRuntime) {
     assert!(rt; time.format_by_pattern_to_buf("%Y").is_none(), "year");
     let year = Format::Custom(CustomFormat::new("%Y"));
     assert!(rt; time.format_to_buf(year).is_none(), "{time:?}");
-}
-
-// The bounds of four-digit years are Python's.
-#[test]
-fn some_times_have_no_text_by_value(rt: HostRuntime) {
     for &(seconds, offset, format) in &[
         (0, 360_000, RAW),
         (0, 93_600, ISO),
@@ -51,31 +45,21 @@ fn some_times_have_no_text_by_value(rt: HostRuntime) {
 }
 
 #[test]
-fn a_text_that_is_refused_memory_is_refused(rt: HostRuntime) -> Result<(), Fail> {
+fn a_text_that_is_refused_memory_is_refused(rt: HostRuntime) {
     let time = Time::new(1_660_874_655, 28_800);
-    let blocks = take_all(rt.alloc())?;
-    let mut all_right = true;
-    for format in [UNIX, RAW, ISO] {
+    let blocks = take_all(rt.alloc()).expect(&rt, "memory");
+    let mut all_right = fails(time.format_by_pattern(rt.alloc(), "%Y"), Fault::Memory);
+    for &format in &[UNIX, RAW, ISO] {
         all_right = all_right
             && fails(time.format(rt.alloc(), format), Fault::Memory)
             && fails(time.format_or_unix(rt.alloc(), format), Fault::Memory);
     }
-    let year = fails(time.format_by_pattern(rt.alloc(), "%Y"), Fault::Memory);
-    drop(blocks);
-    assert!(rt; all_right, "no-memory");
-    assert!(rt; year, "no-memory");
-    Ok(())
-}
-
-#[test]
-fn a_time_without_a_text_is_refused_before_memory(rt: HostRuntime) -> Result<(), Fail> {
-    let blocks = take_all(rt.alloc())?;
     let beyond = fails(Time::MAX.format(rt.alloc(), ISO), Fault::Conversion);
     let wide = Time::new(0, 362_340).format(rt.alloc(), RAW);
     let wide = fails(wide, Fault::OffsetTooWide);
     drop(blocks);
+    assert!(rt; all_right, "no-memory");
     assert!(rt; beyond && wide, "no-memory");
-    Ok(())
 }
 
 /// A piece of memory of each size.
@@ -104,18 +88,15 @@ fn printed_beside(alloc: Global, kept: usize) -> Result<(bool, bool), AllocError
 }
 
 #[test]
-fn each_growth_of_a_text_may_be_refused(rt: HostRuntime) -> Result<(), Fail> {
-    assert!(rt;
-        printed_beside(rt.alloc(), 2)? == (true, false),
-        "no-memory"
-    );
-    assert!(rt;
-        printed_beside(rt.alloc(), 1)? == (true, true),
-        "little-memory"
-    );
-    assert!(rt;
-        printed_beside(rt.alloc(), 0)? == (false, true),
-        "enough-memory"
-    );
-    Ok(())
+fn each_growth_of_a_text_may_be_refused(rt: HostRuntime) {
+    for &(kept, refused, fits, row) in &[
+        (2, true, false, "no-memory"),
+        (1, true, true, "little-memory"),
+        (0, false, true, "enough-memory"),
+    ] {
+        assert!(rt;
+            printed_beside(rt.alloc(), kept).ok() == Some((refused, fits)),
+            "{row}"
+        );
+    }
 }

@@ -6,7 +6,6 @@ use gix_date::device::Device;
 use gix_date_callers::signature_caller::{author_time, redated};
 use gix_signature::{SignatureError, SignatureRef, laws, write_line};
 use std::io::{ErrorKind, Write};
-use std::test::Fail;
 
 /// How writing a line ends, and how often it calls its sink.
 fn sent(name: &str, mail: &str, time: Time) -> (Result<(), SignatureError>, usize) {
@@ -34,10 +33,6 @@ fn parts_are_refused_before_the_offset_and_both_before_a_byte(rt: HostRuntime) {
             assert!(rt; calls == 0, "{name} {mail}");
         }
     }
-}
-
-#[test]
-fn a_wide_offset_is_refused_before_a_byte(rt: HostRuntime) {
     for offset in [360_000, -360_000, i32::MIN] {
         let (answer, calls) = sent("A", "a", Time::new(0, offset));
         assert!(rt; matches!(answer, Err(SignatureError::OffsetTooWide)));
@@ -65,10 +60,6 @@ fn a_writer_that_fails_has_taken_a_prefix_of_the_line(rt: HostRuntime) {
         assert!(rt; writer.took(&line[..room]), "{room}");
         assert!(rt; writer.flushes == 0, "{room}");
     }
-}
-
-#[test]
-fn a_pipe_that_breaks_has_taken_a_prefix_of_the_line(rt: HostRuntime) {
     let writer = Slow::new(rt.alloc(), 99, 3, ErrorKind::BrokenPipe);
     let (kind, writer) = written_short(writer);
     assert!(rt; kind == Some(ErrorKind::BrokenPipe));
@@ -102,10 +93,6 @@ fn a_line_with_another_time_has_its_name_and_mail(rt: HostRuntime) {
         out.into_inner()
             .is(b"A U Thor <author@example.com> 5 -0130")
     );
-}
-
-#[test]
-fn a_line_gets_no_time_without_its_own_or_with_a_wide_offset(rt: HostRuntime) {
     let mut out = Dribble::new(99);
     assert!(rt; matches!(redated("A <a>", Time::new(0, 0), &mut out), Ok(false)));
     let wide = redated(AUTHOR, Time::new(0, 360_000), &mut out);
@@ -136,19 +123,14 @@ fn each_fault_of_a_line_says_what_is_wrong(rt: HostRuntime) {
             ),
         ],
     );
-}
-
-#[test]
-fn a_line_has_a_debug_form(rt: HostRuntime) -> Result<(), Fail> {
-    let parts = SignatureRef::from_line("A <a> 0 +0000").ok_or("a line")?;
+    let line = SignatureRef::from_line("A <a> 0 +0000");
     assert!(rt;
         debugs(
             rt.alloc(),
-            &parts,
-            "SignatureRef { name: \"A\", mail: \"a\", time: \"0 +0000\" }"
+            &line,
+            "Some(SignatureRef { name: \"A\", mail: \"a\", time: \"0 +0000\" })"
         )
     );
-    Ok(())
 }
 
 #[test]

@@ -1,20 +1,21 @@
 //! Devices over writers and readers that fail, and what is written to them.
-use crate::fakes::{Dribble, KINDS, Slow, Supply};
+use crate::fakes::answers::{Fault, debug_has, fails};
+use crate::fakes::{Dribble, KINDS, Slow, Supply, count_of};
+use gix_date::Time;
 use gix_date::device::{Device, Sink, Source, put_all};
-use gix_date::{Error, Time};
+use std::alloc::Global;
 use std::io::ErrorKind;
-use std::test::Fail;
 
 #[test]
-fn a_device_makes_one_write_a_call(rt: HostRuntime) -> Result<(), Fail> {
+fn a_device_makes_one_write_a_call(rt: HostRuntime) {
+    const PIECES: [(&[u8], usize); 3] = [(b"abc", 2), (b"c", 1), (b"de", 2)];
     let mut device = Device::new(Slow::new(rt.alloc(), 2, 5, ErrorKind::StorageFull));
-    assert!(rt; device.put(b"abc") == Ok(2));
-    assert!(rt; device.put(b"c") == Ok(1));
-    assert!(rt; device.put(b"de") == Ok(2));
+    for &(piece, count) in &PIECES {
+        assert!(rt; device.put(piece) == Ok(count));
+    }
     let inner = device.into_inner();
-    assert!(rt; inner.taken.as_slice() == b"abcde".as_slice());
+    assert!(rt; inner.took(b"abcde"));
     assert!(rt; (inner.calls, inner.flushes) == (3, 0));
-    Ok(())
 }
 
 #[test]
@@ -26,7 +27,7 @@ fn a_device_makes_no_write_and_no_flush_after_a_fault(rt: HostRuntime) {
             assert!(rt; device.put(b"b\n") == Err(kind), "{kind:?}");
         }
         let inner = device.into_inner();
-        assert!(rt; inner.taken.as_slice() == b"a".as_slice(), "{kind:?}");
+        assert!(rt; inner.took(b"a"), "{kind:?}");
         assert!(rt; (inner.calls, inner.flushes) == (2, 0), "{kind:?}");
     }
 }
@@ -47,7 +48,7 @@ fn a_device_writes_nothing_behind_what_it_reads(rt: HostRuntime) {
     let mut piece = [b'#'; 100];
     assert!(rt; device.get(&mut piece) == Ok(3));
     assert!(rt; piece.starts_with(b"abc"));
-    assert!(rt; piece.iter().filter(|b| **b == b'#').count() == 97);
+    assert!(rt; count_of(b'#', &piece) == 97);
 }
 
 #[test]
@@ -64,8 +65,7 @@ fn an_interrupted_call_is_a_fault(rt: HostRuntime) {
     assert!(rt; writer.put(b"a") == Err(ErrorKind::Interrupted));
     assert!(rt; writer.into_inner().calls == 1);
     let mut reader = Device::new(Supply::of(b"x", 1, 0, Some(ErrorKind::Interrupted)));
-    let mut piece = [0; 4];
-    assert!(rt; reader.get(&mut piece) == Err(ErrorKind::Interrupted));
+    assert!(rt; reader.get(&mut [0; 4]) == Err(ErrorKind::Interrupted));
     assert!(rt; reader.into_inner().calls == 1);
 }
 
@@ -115,12 +115,8 @@ fn put_all_asks_a_sink_no_more_after_its_fault(rt: HostRuntime) {
     assert!(rt; put_all(&mut out, b"abcde") == Err(ErrorKind::StorageFull));
     assert!(rt; out.calls == 3);
     let mut out = Dribble::new(25);
-    assert!(rt;
-        matches!(
-            Time::MIN.write_to(&mut out),
-            Err(Error::Write(ErrorKind::StorageFull))
-        )
-    );
+    let answer = Time::MIN.write_to(&mut out);
+    assert!(rt; fails(answer, Fault::Write(ErrorKind::StorageFull)));
     assert!(rt; out.calls == 26);
 }
 
@@ -135,22 +131,30 @@ fn a_device_over_a_slice_reads_to_its_end(rt: HostRuntime) {
     assert!(rt; device.get(&mut piece) == Ok(0));
 }
 
-#[test]
-fn put_all_sends_all_or_answers_the_fault(rt: HostRuntime) {
-    let mut whole = Device::new(Slow::new(rt.alloc(), 3, 9, ErrorKind::Other));
-    assert!(rt; put_all(&mut whole, b"abcdefgh") == Ok(()));
-    assert!(rt; whole.into_inner().taken.as_slice() == b"abcdefgh".as_slice());
-    let mut cut = Device::new(Slow::new(rt.alloc(), 3, 7, ErrorKind::Other));
-    assert!(rt; put_all(&mut cut, b"abcdefgh") == Err(ErrorKind::Other));
-    assert!(rt; cut.into_inner().taken.as_slice() == b"abcdefg".as_slice());
-    let mut never = Device::new(Slow::new(rt.alloc(), 3, 0, ErrorKind::Other));
-    assert!(rt; put_all(&mut never, b"") == Ok(()));
-    assert!(rt; never.into_inner().calls == 0);
+/// What becomes of a writer of so many bytes, of which it takes three a call, and the answer.
+fn put_into(alloc: Global, room: usize, bytes: &[u8]) -> (Result<(), ErrorKind>, Slow) {
+    let mut out = Device::new(Slow::new(alloc, 3, room, ErrorKind::Other));
+    let answer = put_all(&mut out, bytes);
+    (answer, out.into_inner())
 }
 
 #[test]
-fn a_device_has_a_debug_form(rt: HostRuntime) -> Result<(), Fail> {
-    let text = format!(in rt.alloc(); "{:?}", Device::new(7))?;
-    assert!(rt; !text.is_empty());
-    Ok(())
+fn put_all_sends_all_or_answers_the_fault(rt: HostRuntime) {
+    const ROWS: [(usize, &[u8], Result<(), ErrorKind>, &[u8]); 2] = [
+        (9, b"abcdefgh", Ok(()), b"abcdefgh"),
+        (7, b"abcdefgh", Err(ErrorKind::Other), b"abcdefg"),
+    ];
+    for &(room, bytes, due, taken) in &ROWS {
+        let (answer, writer) = put_into(rt.alloc(), room, bytes);
+        assert!(rt; answer == due);
+        assert!(rt; writer.took(taken));
+    }
+    let (answer, never) = put_into(rt.alloc(), 0, b"");
+    assert!(rt; answer == Ok(()));
+    assert!(rt; never.calls == 0);
+}
+
+#[test]
+fn a_device_has_a_debug_form(rt: HostRuntime) {
+    assert!(rt; debug_has(rt.alloc(), &Device::new(7), ""));
 }

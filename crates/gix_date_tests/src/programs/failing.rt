@@ -1,10 +1,10 @@
 //! Each write and each read failing in its turn, writes of every length, and a line without end.
-use crate::fakes::harness::ran;
-use crate::fakes::{Halting, Slow, Supply};
-use gix_date::device::Device;
-use gix_date::{Error, Time};
+use crate::fakes::answers::{Fault, fails};
+use crate::fakes::harness::{ran, written};
+use crate::fakes::{Slow, Supply, count_of};
+use gix_date::Time;
 use gix_date_tool::{Mode, ToolError};
-use std::io::{ErrorKind, Write};
+use std::io::ErrorKind;
 
 /// The longest header text, of 26 bytes.
 const LEAST: &[u8] = b"-9223372036854775808 -9959";
@@ -31,52 +31,36 @@ pub(crate) const RUNS: [(Mode, &[u8], &[u8]); 3] = [
 /// Every mode.
 const MODES: [Mode; 3] = [Mode::Check, Mode::Parse, Mode::Sign];
 
-/// What writing the longest text into a writer comes to, and what became of the writer.
-fn written<W: Write>(writer: W) -> (Result<(), Error>, W) {
-    let mut device = Device::new(writer);
-    let answer = Time::MIN.write_to(&mut device);
-    (answer, device.into_inner())
-}
-
 #[test]
 fn the_longest_text_fails_at_each_of_its_writes(rt: HostRuntime) {
-    for taken in 0..26 {
-        let (answer, writer) = written(Slow::new(rt.alloc(), 1, taken, ErrorKind::StorageFull));
-        assert!(rt;
-            matches!(answer, Err(Error::Write(ErrorKind::StorageFull))),
-            "{taken}"
-        );
-        assert!(rt; writer.taken.as_slice() == &LEAST[..taken], "{taken}");
-        assert!(rt; writer.calls == taken + 1, "{taken}");
-    }
-}
-
-#[test]
-fn the_longest_text_ends_at_a_write_of_no_byte(rt: HostRuntime) {
-    for taken in 0..26 {
-        let (answer, writer) = written(Halting::new(rt.alloc(), taken));
-        assert!(rt;
-            matches!(answer, Err(Error::Write(ErrorKind::WriteZero))),
-            "{taken}"
-        );
-        assert!(rt; writer.taken.as_slice() == &LEAST[..taken], "{taken}");
-        assert!(rt; writer.calls == taken + 1, "{taken}");
+    for &(end, due) in &[
+        (Some(ErrorKind::StorageFull), ErrorKind::StorageFull),
+        (None, ErrorKind::WriteZero),
+    ] {
+        for taken in 0..26 {
+            let writer = Slow::ending(rt.alloc(), 1, taken, end);
+            let (answer, writer) = written(Time::MIN, writer);
+            assert!(rt; fails(answer, Fault::Write(due)), "{taken}");
+            assert!(rt; writer.took(&LEAST[..taken]), "{taken}");
+            assert!(rt; writer.calls == taken + 1, "{taken}");
+        }
     }
 }
 
 #[test]
 fn writes_of_every_length_take_the_whole_text(rt: HostRuntime) {
     for a_call in 1..=27 {
-        let (answer, writer) = written(Slow::new(rt.alloc(), a_call, 99, ErrorKind::Other));
+        let writer = Slow::new(rt.alloc(), a_call, 99, ErrorKind::Other);
+        let (answer, writer) = written(Time::MIN, writer);
         assert!(rt; answer.is_ok(), "{a_call}");
-        assert!(rt; writer.taken.as_slice() == LEAST, "{a_call}");
+        assert!(rt; writer.took(LEAST), "{a_call}");
         assert!(rt; writer.calls == LEAST.len().div_ceil(a_call), "{a_call}");
     }
 }
 
 #[test]
 fn a_run_fails_at_each_of_its_writes(rt: HostRuntime) {
-    for (mode, input, output) in RUNS {
+    for &(mode, input, output) in &RUNS {
         for room in 0..output.len() {
             for a_call in [1, 4, 99] {
                 let reader = Supply::once(input, 99, None);
@@ -86,10 +70,7 @@ fn a_run_fails_at_each_of_its_writes(rt: HostRuntime) {
                     matches!(answer, Err(ToolError::Write(ErrorKind::StorageFull))),
                     "{mode:?}, {room}"
                 );
-                assert!(rt;
-                    sink.taken.as_slice() == &output[..room],
-                    "{mode:?}, {room}"
-                );
+                assert!(rt; sink.took(&output[..room]), "{mode:?}, {room}");
             }
         }
     }
@@ -97,19 +78,16 @@ fn a_run_fails_at_each_of_its_writes(rt: HostRuntime) {
 
 #[test]
 fn a_run_ends_at_a_write_of_no_byte(rt: HostRuntime) {
-    for (mode, input, output) in RUNS {
+    for &(mode, input, output) in &RUNS {
         for taken in 0..output.len() {
             let reader = Supply::once(input, 99, None);
-            let writer = Halting::new(rt.alloc(), taken);
+            let writer = Slow::ending(rt.alloc(), 1, taken, None);
             let (answer, _source, sink) = ran(rt.alloc(), mode, reader, writer);
             assert!(rt;
                 matches!(answer, Err(ToolError::Write(ErrorKind::WriteZero))),
                 "{mode:?}, {taken}"
             );
-            assert!(rt;
-                sink.taken.as_slice() == &output[..taken],
-                "{mode:?}, {taken}"
-            );
+            assert!(rt; sink.took(&output[..taken]), "{mode:?}, {taken}");
             assert!(rt; sink.calls == taken + 1, "{mode:?}, {taken}");
         }
     }
@@ -117,13 +95,13 @@ fn a_run_ends_at_a_write_of_no_byte(rt: HostRuntime) {
 
 #[test]
 fn writes_of_every_length_take_all_replies(rt: HostRuntime) {
-    for (mode, input, output) in RUNS {
+    for &(mode, input, output) in &RUNS {
         for a_call in 1..=output.len() {
             let reader = Supply::once(input, 99, None);
             let writer = Slow::new(rt.alloc(), a_call, 99, ErrorKind::Other);
             let (answer, _source, sink) = ran(rt.alloc(), mode, reader, writer);
             assert!(rt; answer.is_ok(), "{mode:?}, {a_call}");
-            assert!(rt; sink.taken.as_slice() == output, "{mode:?}, {a_call}");
+            assert!(rt; sink.took(output), "{mode:?}, {a_call}");
         }
     }
 }
@@ -137,14 +115,14 @@ pub(crate) fn are_first_lines(lines: &[u8], text: &[u8], count: usize) -> bool {
 
 /// How many newlines stand in these bytes.
 pub(crate) fn newlines(bytes: &[u8]) -> usize {
-    bytes.iter().filter(|b| **b == b'\n').count()
+    count_of(b'\n', bytes)
 }
 
 #[test]
 fn a_run_fails_at_each_of_its_reads(rt: HostRuntime) {
-    for (mode, input, output) in RUNS {
+    for &(mode, input, output) in &RUNS {
         for given in 0..=input.len() {
-            for (a_call, kind) in [
+            for &(a_call, kind) in &[
                 (1, ErrorKind::ConnectionReset),
                 (5, ErrorKind::Interrupted),
                 (99, ErrorKind::TimedOut),

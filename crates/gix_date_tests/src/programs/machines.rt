@@ -4,7 +4,6 @@ use crate::fakes::machine::Machine;
 use crate::fakes::{Slow, Supply};
 use gix_date::device::Device;
 use std::alloc::AllocError;
-use std::test::Fail;
 use streams::Status;
 
 /// How `git_date` ends on a machine with these words, what it writes, and what it says.
@@ -25,33 +24,35 @@ fn dated(machine: &Machine, line: &[&str]) -> Result<(Status, Slow, Slow), Alloc
 }
 
 #[test]
-fn a_clock_is_read_only_where_no_moment_is_given(rt: HostRuntime) -> Result<(), Fail> {
+fn a_clock_is_read_only_where_no_moment_is_given(rt: HostRuntime) {
     let machine = Machine {
         seconds: None,
         ..Machine::at(rt, 0, "UTC0")
     };
-    let (ended, out, said) = dated(&machine, &["now"])?;
+    let (ended, out, said) = dated(&machine, &["now"]).expect(&rt, "memory");
     assert!(rt; ended == Status::Failure);
-    assert!(rt; out.taken.is_empty());
-    assert!(rt; said.taken.as_slice() == b"git_date: the clock cannot be read\n".as_slice());
-    let (ended, out, said) = dated(&machine, &["--now", "@1251660000", "now"])?;
+    assert!(rt; out.took(b""));
+    assert!(rt; said.took(b"git_date: the clock cannot be read\n"));
+    let (ended, out, said) = dated(&machine, &["--now", "@1251660000", "now"]).expect(
+        &rt, "memory",
+    );
     assert!(rt; ended == Status::Success);
-    assert!(rt; out.taken.as_slice() == b"1251660000 +0000\n".as_slice());
-    assert!(rt; said.taken.is_empty());
-    Ok(())
+    assert!(rt; out.took(b"1251660000 +0000\n"));
+    assert!(rt; said.took(b""));
 }
 
 #[test]
-fn a_file_is_looked_at_again_once_it_is_open(rt: HostRuntime) -> Result<(), Fail> {
+fn a_file_is_looked_at_again_once_it_is_open(rt: HostRuntime) {
     let machine = Machine {
         opened: Some("/dev/null"),
         ..Machine::at(rt, 0, "UTC0")
     };
-    let (ended, out, said) = dated(&machine, &["--zone", "/etc/passwd", "now"])?;
+    let (ended, out, said) = dated(&machine, &["--zone", "/etc/passwd", "now"]).expect(
+        &rt, "memory",
+    );
     assert!(rt; ended == Status::Usage);
-    assert!(rt; out.taken.is_empty());
+    assert!(rt; out.took(b""));
     let wanted =
         b"git_date: '/etc/passwd' is no zone: it is a folder, a pipe or a device\n".as_slice();
     assert!(rt; said.taken.as_slice().starts_with(wanted));
-    Ok(())
 }

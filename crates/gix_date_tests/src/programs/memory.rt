@@ -1,12 +1,12 @@
 //! Runs and calls where each request for memory is refused. What the calls of single texts ask for, `tests/memory` counts.
+use crate::fakes::answers::{Fault, fails};
 use crate::fakes::harness::{executed, ran, words_of};
 use crate::fakes::{Hoarder, Small, Supply, take_all};
 use crate::programs::failing::{RUNS, newlines};
-use gix_date::{Error, Time, parse};
+use gix_date::{Time, parse};
 use gix_date_tool::{Mode, Status, ToolError, command};
 use std::alloc::Global;
 use std::str;
-use std::test::Fail;
 
 /// Whether a run over this input writes this output and counts so many lines, or else is refused memory.
 fn runs_so(alloc: Global, mode: Mode, input: &[u8], output: &[u8], lines: Option<u64>) -> bool {
@@ -41,107 +41,99 @@ fn ended(alloc: Global, words: &[String]) -> (Status, Small, Small) {
 }
 
 #[test]
-fn a_text_of_any_length_wants_memory_for_its_copy(rt: HostRuntime) -> Result<(), Fail> {
+fn a_text_of_any_length_wants_memory_for_its_copy(rt: HostRuntime) {
     let mut texts = Vec::new(rt.alloc());
     for length in [1, 26, 27, 255, 256, 4095, 65_537, 1_000_000] {
-        texts.push(vec![in rt.alloc(); b'x'; length]?)?;
+        texts
+            .push(vec![in rt.alloc(); b'x'; length].expect(&rt, "memory"))
+            .expect(&rt, "memory");
     }
-    let blocks = take_all(rt.alloc())?;
+    let blocks = take_all(rt.alloc()).expect(&rt, "memory");
     let mut all_right = true;
     for bytes in texts.iter() {
         let text = str::from_utf8(bytes.as_slice()).unwrap_or("0");
-        if !matches!(parse(rt.alloc(), text, None), Err(Error::Memory)) {
-            all_right = false;
-        }
+        all_right = all_right && fails(parse(rt.alloc(), text, None), Fault::Memory);
     }
     drop(blocks);
     assert!(rt; all_right, "no-memory");
-    Ok(())
 }
 
 #[test]
-fn a_growth_refused_ends_a_run(rt: HostRuntime) -> Result<(), Fail> {
-    let blocks = take_all(rt.alloc())?;
+fn a_growth_refused_ends_a_run(rt: HostRuntime) {
+    let blocks = take_all(rt.alloc()).expect(&rt, "memory");
     let mut all_right = true;
     for mode in [Mode::Check, Mode::Parse, Mode::Sign] {
         all_right = all_right && runs_so(rt.alloc(), mode, b"A <a> 0 +0000", b"", None);
     }
     drop(blocks);
     assert!(rt; all_right, "no-memory");
-    Ok(())
 }
 
 #[test]
 fn a_later_growth_refused_ends_a_run_after_its_replies(rt: HostRuntime) {
     // Memory is asked for a line that a read gives without its newline.
     let longer = b"100000000                                                       ".as_slice();
-    let rows = [
-        (
-            "line",
-            Mode::Check,
-            [b"0 +0000\n".as_slice(), longer],
-            b"canonical\n".as_slice(),
-        ),
-        ("line", Mode::Parse, [b"0 +0000\n", longer], b"0 +0000\n"),
-        (
-            "line",
-            Mode::Sign,
-            [b"A <a> 0\n", longer],
-            b"A <a> 0 +0000\n",
-        ),
+    let rows: [(Mode, &[u8], &[u8]); 3] = [
+        (Mode::Check, b"0 +0000\n", b"canonical\n"),
+        (Mode::Parse, b"0 +0000\n", b"0 +0000\n"),
+        (Mode::Sign, b"A <a> 0\n", b"A <a> 0 +0000\n"),
     ];
-    for (row, mode, pieces, output) in rows {
-        let ended = hoarded(rt.alloc(), mode, &pieces, output);
-        assert!(rt; matches!(ended, (Err(ToolError::Memory), true)), "{row}");
+    for &(mode, line, output) in &rows {
+        let ended = hoarded(rt.alloc(), mode, &[line, longer], output);
+        assert!(rt; matches!(ended, (Err(ToolError::Memory), true)), "{mode:?}");
     }
 }
 
 #[test]
-fn a_run_over_short_lines_takes_little_memory(rt: HostRuntime) -> Result<(), Fail> {
-    let spare: Vec<u8> = Vec::with_capacity(rt.alloc(), 65_536)?;
-    let blocks = take_all(rt.alloc())?;
+fn a_run_over_short_lines_takes_little_memory(rt: HostRuntime) {
+    let spare: Vec<u8> = Vec::with_capacity(rt.alloc(), 65_536).expect(&rt, "memory");
+    let blocks = take_all(rt.alloc()).expect(&rt, "memory");
     drop(spare);
     let mut all_right = true;
-    for (mode, input, output) in RUNS {
+    for &(mode, input, output) in &RUNS {
         let lines = Some(newlines(output) as u64);
         all_right = all_right && runs_so(rt.alloc(), mode, input, output, lines);
     }
     drop(blocks);
     assert!(rt; all_right, "little-memory");
-    Ok(())
 }
 
 #[test]
-fn a_moment_is_read_without_memory(rt: HostRuntime) -> Result<(), Fail> {
-    let words = words_of(rt.alloc(), &["parse", "x"])?;
-    let dated = words_of(rt.alloc(), &["parse", "0 +0000"])?;
-    let blocks = take_all(rt.alloc())?;
-    let answer = command(rt.alloc(), words.as_slice());
-    let due = command(rt.alloc(), dated.as_slice());
+fn a_moment_is_read_without_memory(rt: HostRuntime) {
+    let words = words_of(rt.alloc(), &["parse", "x"]).expect(&rt, "memory");
+    let dated = words_of(rt.alloc(), &["parse", "0 +0000"]).expect(&rt, "memory");
+    let blocks = take_all(rt.alloc()).expect(&rt, "memory");
+    let answer = command(rt.alloc(), words.as_slice()).ok();
+    let due = command(rt.alloc(), dated.as_slice()).ok();
+    drop(blocks);
+    assert!(rt; answer == Some(None));
+    assert!(rt; due == Some(Some((Mode::Parse, Some(Time::new(0, 0))))));
+}
+
+#[test]
+fn a_wrong_moment_is_told_without_memory(rt: HostRuntime) {
+    let words = words_of(rt.alloc(), &["parse", "x"]).expect(&rt, "memory");
+    let blocks = take_all(rt.alloc()).expect(&rt, "memory");
     let (status, sink, said) = ended(rt.alloc(), words.as_slice());
+    drop(blocks);
     let told = sink.is(b"usage: gix_date_tool MODE [NOW]\n")
         && said.is(
             b"gix_date_tool: NOW is in no known date format, or its offset is above 23:59; expected a date, \
               such as \"2022-08-18 12:45:06 +0800\" or \"1660874655 +0800\"\n",
         );
-    drop(blocks);
-    assert!(rt; answer? == None);
-    assert!(rt; due? == Some((Mode::Parse, Some(Time::new(0, 0)))));
     assert!(rt; status == Status::Usage);
     assert!(rt; told, "no-memory");
-    Ok(())
 }
 
 #[test]
-fn a_run_refused_memory_ends_the_program_with_a_message(rt: HostRuntime) -> Result<(), Fail> {
-    let words = words_of(rt.alloc(), &["check"])?;
-    let blocks = take_all(rt.alloc())?;
+fn a_run_refused_memory_ends_the_program_with_a_message(rt: HostRuntime) {
+    let words = words_of(rt.alloc(), &["check"]).expect(&rt, "memory");
+    let blocks = take_all(rt.alloc()).expect(&rt, "memory");
     let (status, sink, said) = ended(rt.alloc(), words.as_slice());
     let told = sink.is(b"") && said.is(b"gix_date_tool: out of memory\n");
     drop(blocks);
     assert!(rt; status == Status::Failure);
     assert!(rt; told, "no-memory");
-    Ok(())
 }
 
 #[test]

@@ -1,13 +1,12 @@
 //! Objects and lines judged over readers and writers that fail in mid-stream.
 use crate::fakes::harness::words_of;
-use crate::fakes::{Halting, Hoarder, Slow, Small, Supply, take_all};
+use crate::fakes::{Hoarder, Slow, Small, Supply, take_all};
 use crate::programs::failing::are_first_lines;
 use git_ident_tool::{Fault, Judge, StreamFault, Telling, execute, show_usage};
 use gix_date::device::Device;
 use gix_date_tool::{Status, ToolError};
 use std::alloc::{AllocError, Global};
 use std::io::{ErrorKind, Read, Write};
-use std::test::Fail;
 
 /// An input, what is told of it, and where the lines end that are told of.
 #[derive(Clone, Copy)]
@@ -62,15 +61,21 @@ impl Run {
 
     /// How many lines are told of, if so many bytes are given.
     fn told(self, given: usize) -> usize {
-        self.ends.iter().filter(|end| **end <= given).count()
+        let mut count = 0_usize;
+        for end in &self.ends {
+            if *end <= given {
+                count = count.saturating_add(1);
+            }
+        }
+        count
     }
 }
 
 #[test]
 fn judging_fails_at_each_of_its_reads(rt: HostRuntime) {
-    for run in [OBJECTS, LINES] {
+    for &run in &[OBJECTS, LINES] {
         for given in 0..=run.input.len() {
-            for (a_call, kind) in [
+            for &(a_call, kind) in &[
                 (1, ErrorKind::ConnectionReset),
                 (5, ErrorKind::Interrupted),
                 (99, ErrorKind::TimedOut),
@@ -89,41 +94,22 @@ fn judging_fails_at_each_of_its_reads(rt: HostRuntime) {
 
 #[test]
 fn judging_fails_at_each_of_its_writes(rt: HostRuntime) {
-    for run in [OBJECTS, LINES] {
-        for taken in 0..run.output.len() {
-            let reader = Supply::once(run.input, 1, None);
-            let writer = Slow::new(rt.alloc(), 1, taken, ErrorKind::StorageFull);
-            let (answer, source, sink) = run.over(rt.alloc(), reader, writer);
-            assert!(rt;
-                matches!(
-                    answer,
-                    Err(Fault::Tool(ToolError::Write(ErrorKind::StorageFull)))
-                )
-            );
-            assert!(rt; sink.taken.as_slice() == &run.output[..taken]);
-            assert!(rt; sink.calls == taken + 1);
-            assert!(rt; run.ends.contains(&source.calls));
-        }
-    }
-}
-
-#[test]
-fn judging_ends_at_a_write_of_no_byte(rt: HostRuntime) {
-    for run in [OBJECTS, LINES] {
-        for taken in 0..run.output.len() {
-            let reader = Supply::once(run.input, 99, None);
-            let (answer, _source, sink) = run.over(
-                rt.alloc(),
-                reader,
-                Halting::new(rt.alloc(), taken),
-            );
-            assert!(rt;
-                matches!(
-                    answer,
-                    Err(Fault::Tool(ToolError::Write(ErrorKind::WriteZero)))
-                )
-            );
-            assert!(rt; sink.taken.as_slice() == &run.output[..taken]);
+    for &run in &[OBJECTS, LINES] {
+        for &(a_read, end, due) in &[
+            (1, Some(ErrorKind::StorageFull), ErrorKind::StorageFull),
+            (99, None, ErrorKind::WriteZero),
+        ] {
+            for taken in 0..run.output.len() {
+                let reader = Supply::once(run.input, a_read, None);
+                let writer = Slow::ending(rt.alloc(), 1, taken, end);
+                let (answer, source, sink) = run.over(rt.alloc(), reader, writer);
+                assert!(rt;
+                    matches!(answer, Err(Fault::Tool(ToolError::Write(kind))) if kind == due)
+                );
+                assert!(rt; sink.took(&run.output[..taken]));
+                assert!(rt; sink.calls == taken + 1);
+                assert!(rt; a_read > 1 || run.ends.contains(&source.calls));
+            }
         }
     }
 }
@@ -146,16 +132,20 @@ fn an_input_may_end_only_after_an_object(rt: HostRuntime) {
 }
 
 #[test]
-fn judging_that_is_refused_memory_ends_after_its_replies(rt: HostRuntime) -> Result<(), Fail> {
-    let longer =
-        b"A                                                                <a> x\n".as_slice();
-    let pieces = [b"A <a> x\n".as_slice(), longer];
-    let blocks = take_all(rt.alloc())?;
+fn judging_that_is_refused_memory_ends(rt: HostRuntime) {
+    let blocks = take_all(rt.alloc()).expect(&rt, "memory");
     let reader = Supply::once(LINES.input, 99, None);
     let (at_once, _source, none) = LINES.over(rt.alloc(), reader, Small::new());
     drop(blocks);
     assert!(rt; matches!(at_once, Err(Fault::Tool(ToolError::Memory))));
     assert!(rt; none.is(b""));
+}
+
+#[test]
+fn judging_that_is_refused_memory_later_ends_after_its_replies(rt: HostRuntime) {
+    let longer =
+        b"A                                                                <a> x\n".as_slice();
+    let pieces = [b"A <a> x\n".as_slice(), longer];
     let (later, source, sink) = LINES.over(
         rt.alloc(),
         Hoarder::new(rt.alloc(), &pieces),
@@ -164,7 +154,6 @@ fn judging_that_is_refused_memory_ends_after_its_replies(rt: HostRuntime) -> Res
     drop(source);
     assert!(rt; matches!(later, Err(Fault::Tool(ToolError::Memory))));
     assert!(rt; sink.is(b"badDate: A <a> x\n"));
-    Ok(())
 }
 
 /// How the program ends by one word over a reader and a writer, and what it says where there is so much room.
@@ -189,33 +178,44 @@ fn ended(
 }
 
 #[test]
-fn the_judging_program_says_which_stream_failed(rt: HostRuntime) -> Result<(), Fail> {
+fn the_judging_program_says_that_its_reader_failed(rt: HostRuntime) {
     let reset = Some(ErrorKind::ConnectionReset);
     let said = b"git_ident: reading failed: connection reset\n".as_slice();
     for room in 0..=said.len() {
         let reader = Supply::once(OBJECTS.input, 9, reset);
-        let (status, messages) = ended(rt.alloc(), reader, Slow::roomy(rt.alloc()), room)?;
+        let (status, messages) = ended(rt.alloc(), reader, Slow::roomy(rt.alloc()), room).expect(
+            &rt, "memory",
+        );
         assert!(rt; status == Status::Failure);
-        assert!(rt; messages.taken.as_slice() == &said[..room]);
+        assert!(rt; messages.took(&said[..room]));
     }
-    for (kind, said) in [
-        (
-            ErrorKind::StorageFull,
-            b"git_ident: writing failed: no storage space\n".as_slice(),
-        ),
-        (ErrorKind::BrokenPipe, b""),
-    ] {
-        let reader = Supply::once(OBJECTS.input, 9, None);
-        let (status, messages) = ended(rt.alloc(), reader, Slow::new(rt.alloc(), 1, 3, kind), 99)?;
-        assert!(rt; status == Status::Failure);
-        assert!(rt; messages.taken.as_slice() == said);
-    }
-    Ok(())
 }
 
 #[test]
-fn wrong_words_judge_nothing(rt: HostRuntime) -> Result<(), Fail> {
-    let words = words_of(rt.alloc(), &["x"])?;
+fn the_judging_program_says_that_its_writer_failed(rt: HostRuntime) {
+    const FAULTS: [(ErrorKind, &[u8]); 2] = [
+        (
+            ErrorKind::StorageFull,
+            b"git_ident: writing failed: no storage space\n",
+        ),
+        (ErrorKind::BrokenPipe, b""),
+    ];
+    for &(kind, said) in &FAULTS {
+        let reader = Supply::once(OBJECTS.input, 9, None);
+        let (status, messages) = ended(
+            rt.alloc(),
+            reader,
+            Slow::new(rt.alloc(), 1, 3, kind),
+            99,
+        ).expect(&rt, "memory");
+        assert!(rt; status == Status::Failure);
+        assert!(rt; messages.took(said));
+    }
+}
+
+#[test]
+fn wrong_words_judge_nothing(rt: HostRuntime) {
+    let words = words_of(rt.alloc(), &["x"]).expect(&rt, "memory");
     let mut source = Device::new(Supply::once(OBJECTS.input, 9, None));
     let mut sink = Device::new(Slow::roomy(rt.alloc()));
     let mut messages = Device::new(Slow::roomy(rt.alloc()));
@@ -230,14 +230,15 @@ fn wrong_words_judge_nothing(rt: HostRuntime) -> Result<(), Fail> {
         (status, source.into_inner().calls, sink.into_inner().calls) == (Status::Usage, 0, 0)
     );
     assert!(rt;
-        messages.into_inner().taken.as_slice()
-            == b"git_ident: a word is no option\nusage: git_ident [--all] [--lines]\n".as_slice()
+        messages.into_inner().took(
+            b"git_ident: a word is no option\nusage: git_ident [--all] [--lines]\n"
+        )
     );
     let mut messages = Device::new(Slow::roomy(rt.alloc()));
     assert!(rt; show_usage(&mut messages) == Status::Usage);
     assert!(rt;
-        messages.into_inner().taken.as_slice()
-            == b"git_ident: a word is not UTF-8\nusage: git_ident [--all] [--lines]\n".as_slice()
+        messages.into_inner().took(
+            b"git_ident: a word is not UTF-8\nusage: git_ident [--all] [--lines]\n"
+        )
     );
-    Ok(())
 }

@@ -1,4 +1,5 @@
 //! Runs over the lines of a stream, as readers give them piece by piece.
+use crate::fakes::answers::{all_show, debugs};
 use crate::fakes::harness::ran;
 use crate::fakes::{Asking, Replied, Slow, Supply};
 use crate::programs::failing::{RUNS, newlines};
@@ -7,16 +8,15 @@ use gix_date::device::Device;
 use gix_date_tool::{Mode, ToolError, run};
 use std::cell::Cell;
 use std::io::ErrorKind;
-use std::test::Fail;
 
 #[test]
 fn lines_are_answered_alike_by_pieces_of_any_length(rt: HostRuntime) {
-    for (mode, input, output) in RUNS {
+    for &(mode, input, output) in &RUNS {
         for a_call in [1, 2, 7, 4096] {
             let reader = Supply::once(input, a_call, None);
             let (answer, _source, sink) = ran(rt.alloc(), mode, reader, Slow::roomy(rt.alloc()));
-            assert!(rt; matches!(answer, Ok(lines) if lines == newlines(output) as u64));
-            assert!(rt; sink.taken.as_slice() == output, "{mode:?}, {a_call}");
+            assert!(rt; answer.ok() == Some(newlines(output) as u64));
+            assert!(rt; sink.took(output), "{mode:?}, {a_call}");
         }
     }
 }
@@ -29,15 +29,15 @@ fn dates_are_read_from_the_moment_that_is_handed_in(rt: HostRuntime) {
     let answer = run(rt.alloc(), Mode::Parse, now, &mut source, &mut sink);
     assert!(rt; matches!(answer, Ok(3)));
     assert!(rt;
-        sink.into_inner().taken.as_slice()
-            == b"1698400800 +2500\n1698314400 +2500\n-1000 +0000\n".as_slice()
+        sink.into_inner()
+            .took(b"1698400800 +2500\n1698314400 +2500\n-1000 +0000\n")
     );
 }
 
 #[test]
 fn replies_are_written_before_more_is_read(rt: HostRuntime) {
     // The last row fills each piece of 16384 bytes.
-    for (lines, lines_a_call, calls) in [(40, 1, 41), (41, 3, 15), (6144, 2048, 4)] {
+    for &(lines, lines_a_call, calls) in &[(40, 1, 41), (41, 3, 15), (6144, 2048, 4)] {
         let replied = Cell::new(0);
         let mut source = Device::new(Asking::new(lines, lines_a_call, &replied));
         let mut sink = Device::new(Replied(&replied));
@@ -53,61 +53,61 @@ fn replies_are_written_before_more_is_read(rt: HostRuntime) {
 }
 
 #[test]
-fn many_lines_are_written_in_few_calls(rt: HostRuntime) -> Result<(), Fail> {
+fn many_lines_are_written_in_few_calls(rt: HostRuntime) {
     let mut input = Vec::new(rt.alloc());
     for _ in 0..10_000 {
-        input.extend_from_slice(b"0 +0000\n")?;
+        input.extend_from_slice(b"0 +0000\n").expect(&rt, "memory");
     }
-    let mut source = Device::new(Supply::once(input.as_slice(), 1 << 20, None));
-    let mut sink = Device::new(Slow::roomy(rt.alloc()));
-    let answer = run(rt.alloc(), Mode::Check, None, &mut source, &mut sink);
-    assert!(rt; matches!(answer, Ok(10_000)));
-    let inner = sink.into_inner();
-    assert!(rt; inner.taken.len() == 100_000);
-    assert!(rt; inner.calls <= 10);
-    Ok(())
+    let reader = Supply::once(input.as_slice(), 1 << 20, None);
+    let (answer, _source, sink) = ran(rt.alloc(), Mode::Check, reader, Slow::roomy(rt.alloc()));
+    assert!(rt; answer.ok() == Some(10_000));
+    assert!(rt; sink.taken.len() == 100_000);
+    assert!(rt; sink.calls <= 10);
 }
 
 #[test]
-fn modes_and_faults_say_what_they_are(rt: HostRuntime) -> Result<(), Fail> {
-    for (mode, debug) in [
+fn modes_say_what_they_are(rt: HostRuntime) {
+    const MODES: [(Mode, &str); 3] = [
         (Mode::Check, "Check"),
         (Mode::Parse, "Parse"),
         (Mode::Sign, "Sign"),
-    ] {
-        assert!(rt; format!(in rt.alloc(); "{mode:?}")?.as_str() == debug);
-        for other in [Mode::Check, Mode::Parse, Mode::Sign] {
-            let is_same = format!(in rt.alloc(); "{other:?}")?.as_str() == debug;
-            assert!(rt; (mode == other) == is_same, "{mode:?}, {other:?}");
+    ];
+    for &(mode, form) in &MODES {
+        assert!(rt; debugs(rt.alloc(), &mode, form));
+        for &(other, another) in &MODES {
+            assert!(rt; (mode == other) == (form == another), "{mode:?}, {other:?}");
         }
     }
-    for (fault, text, debug) in [
-        (
-            ToolError::Read(ErrorKind::BrokenPipe),
-            "reading failed: broken pipe",
-            "Read(BrokenPipe)",
-        ),
-        (
-            ToolError::Write(ErrorKind::BrokenPipe),
-            "writing failed: broken pipe",
-            "Write(BrokenPipe)",
-        ),
-        (ToolError::Memory, "out of memory", "Memory"),
-        (
-            ToolError::LineTooLong,
-            "a line has more than 65536 bytes",
-            "LineTooLong",
-        ),
-    ] {
-        assert!(rt; format!(in rt.alloc(); "{fault}")?.as_str() == text);
-        assert!(rt; format!(in rt.alloc(); "{fault:?}")?.as_str() == debug);
-    }
-    let text = format!(in rt.alloc(); "{}", ToolError::TooManyLines)?;
+}
+
+#[test]
+fn faults_say_what_they_are(rt: HostRuntime) {
+    all_show(
+        &rt,
+        rt.alloc(),
+        &[
+            (
+                ToolError::Read(ErrorKind::BrokenPipe),
+                "reading failed: broken pipe",
+                "Read(BrokenPipe)",
+            ),
+            (
+                ToolError::Write(ErrorKind::BrokenPipe),
+                "writing failed: broken pipe",
+                "Write(BrokenPipe)",
+            ),
+            (ToolError::Memory, "out of memory", "Memory"),
+            (
+                ToolError::LineTooLong,
+                "a line has more than 65536 bytes",
+                "LineTooLong",
+            ),
+        ],
+    );
+    let text = format!(in rt.alloc(); "{}", ToolError::TooManyLines).expect(&rt, "memory");
     assert!(rt;
         text.starts_with("there are more than 1000000 lines"),
         "{text}"
     );
-    let debug = format!(in rt.alloc(); "{:?}", ToolError::TooManyLines)?;
-    assert!(rt; debug.as_str() == "TooManyLines");
-    Ok(())
+    assert!(rt; debugs(rt.alloc(), &ToolError::TooManyLines, "TooManyLines"));
 }
