@@ -1,4 +1,5 @@
-//! A machine of a given clock, zone and command line, perhaps a faulty one, which takes memory and files from the one that the tests run on.
+//! A machine of a given clock, zone and command line, perhaps a faulty one. It takes memory and files from the one that the
+//! tests run on.
 use std::alloc::{Allocator, Global};
 use std::env::FillError;
 use std::fs::{Metadata, OpenOptions};
