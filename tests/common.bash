@@ -61,6 +61,11 @@ blocks() {
     awk -v begin="\`\`\`$1" '$0 == begin { on = 1; next } /^```$/ { on = 0 } on'
 }
 
+# Waits until what parts run stands, where test_all builds it meanwhile: the file that BUILT names says so.
+await_built() {
+    until [ -z "${BUILT-}" ] || [ -e "$BUILT" ]; do sleep 1; done
+}
+
 # Builds the program where its script would, so that a build neither fails unseen nor speaks among the answers that are compared.
 build_program() {
     ./gix_date_tool check </dev/null

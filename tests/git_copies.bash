@@ -28,30 +28,33 @@ download_git() (
     [ "$name" ] && cd "$apt" && apt-get "${options[@]}" source --download-only "git=$name"
 )
 
-# Builds Git as it is, as `built_git`, or skips what the words say. It is kept for this compiler and these settings, and run in copies
-# alone, since tests could change it.
+# Builds Git as it is, as `built_git`, by words that may come last, or skips what the first says. It is kept for this compiler and these
+# settings, and run in copies alone, since tests could change it.
 build_git() {
-    local key
+    local key what=$1
+    shift
     key=$({ echo "$git_version ${git_settings[*]}" && cc --version; } | sha256sum)
     built_git=${XDG_CACHE_HOME:-$HOME/.cache}/gix_date/git-$git_version-${key:0:16}
     [ ! -d "$built_git" ] || return 0
     download_git >"$room/log" 2>&1 || {
-        skip "$1" "the source package of Git $git_version"
+        skip "$what" "the source package of Git $git_version"
         return 1
     }
     quietly dpkg-source --no-check -x "$room"/apt/git_*.dsc "$room/git"
-    quietly make -C "$room/git" -j "$(nproc)" "${git_settings[@]}"
+    quietly "$@" make -C "$room/git" -j "$(nproc)" "${git_settings[@]}"
     mkdir -p "${built_git%/*}"
     cp -a "$room/git" "$built_git.$$"
     # Another run may have been first.
     mv -T "$built_git.$$" "$built_git" 2>/dev/null || rm -rf "$built_git.$$"
 }
 
-# Copies it. The wrappers of its commands name its folder.
+# Copies it, by words that may come last. The wrappers of its commands name its folder.
 copy_git() {
-    cp -a "$built_git" "$room/$1"
-    rm -r "$room/$1/bin-wrappers"
-    quietly make -C "$room/$1" -j "$(nproc)" "${git_settings[@]}"
+    local copy=$1
+    shift
+    cp -a "$built_git" "$room/$copy"
+    rm -r "$room/$copy/bin-wrappers"
+    quietly "$@" make -C "$room/$copy" -j "$(nproc)" "${git_settings[@]}"
 }
 
 # Puts a file and the library, of which `library` is the path, in the place of the dates of a copy.
