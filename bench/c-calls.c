@@ -87,7 +87,7 @@ static const char iso[] = "%Y-%m-%d %H:%M:%S %z";
 static gix_date_time parsed;
 static gix_date_signature parts;
 static gix_date_ident_parts ident;
-static const gix_date_git_time decimal = {1660797906, 800};
+static const gix_date_git_time decimal = {1660797906, 800, false};
 static const git_date_mode shown = {GIT_DATE_HUMAN, true};
 static git_date_exact exact;
 static git_date_approximate guess;
@@ -99,7 +99,7 @@ static char out[256];
 static size_t len, place;
 static int64_t seconds;
 static int32_t offset;
-static uint32_t read_so;
+static uint32_t read_so, message;
 static uint8_t canonical;
 
 CALL(gix_date_parse_header, TEXT("1660797906 +0800"), &parsed)
@@ -116,6 +116,8 @@ LINE(gix_date_parse_lines, TEXT("Thu, 18 Aug 2022 12:45:06 +0800"), GIX_DATE_CAR
 LINES_AT(gix_date_parse_lines_at, TEXT("1 month 2 days ago"), GIX_DATE_CAREFUL_LINES, &usual, &now,
          zone, CELL)
 LINE(gix_date_check_lines, TEXT("1660797906 +0800"), &canonical, 1, &len)
+LINE(gix_date_ident_lines, TEXT("A U Thor <author@example.com> 1660797906 +0800"), &ident, 1, &seconds, 1,
+     &offset, 1, &message, 1, &read_so, 1, &len)
 CALL(gix_date_format, &at, GIX_DATE_ISO8601, out, sizeof out, &len)
 CALL(gix_date_format_or_unix, &at, GIX_DATE_DEFAULT, out, sizeof out, &len)
 CALL(gix_date_format_by_pattern, &at, TEXT("%A %-d %B %Y, %H:%M"), out, sizeof out, &len)
@@ -128,6 +130,9 @@ CALL(gix_date_ident_time, &decimal, &parsed)
 CALL(gix_date_fsck, TEXT("A U Thor <author@example.com> 1660797906 +0800"), &place)
 CALL(gix_date_write_ident, TEXT(". A U Thor"), TEXT("<author@example.com>"), &at, out, sizeof out,
      &len)
+CALL(gix_date_write_ident_as_is, TEXT("A U Thor"), TEXT("author@example.com"), &decimal, out, sizeof out,
+     &len)
+CALL(gix_date_git_time_text, &decimal, out, sizeof out, &len)
 CALLS_AT(git_date_parse_at, long_text, sizeof long_text, &now, zone, &exact, &place)
 CALLS_AT(git_date_approxidate_at, long_text, sizeof long_text, &now, zone, &guess, &place)
 CALLS_AT(git_date_expiry_at, long_text, sizeof long_text, &now, zone, &expiry, &place)
@@ -153,15 +158,18 @@ static void *call_gix_date_zone_free(void *status)
     return NULL;
 }
 
-static void *call_git_date_offset_of_decimal(void *status)
+CALL(git_date_parse_offset, TEXT("-03:30"), &offset)
+CALL(git_date_offset_text, 19800, out, sizeof out, &len)
+
+static void *call_git_date_offset_from_decimal(void *status)
 {
-    *(uint32_t *)status = git_date_offset_of_decimal(530) == 19800 ? 0 : 1;
+    *(uint32_t *)status = git_date_offset_from_decimal(530) == 19800 ? 0 : 1;
     return NULL;
 }
 
-static void *call_git_date_decimal_of_offset(void *status)
+static void *call_git_date_offset_to_decimal(void *status)
 {
-    *(uint32_t *)status = git_date_decimal_of_offset(19800) == 530 ? 0 : 1;
+    *(uint32_t *)status = git_date_offset_to_decimal(19800) == 530 ? 0 : 1;
     return NULL;
 }
 
@@ -220,6 +228,7 @@ static const struct {
     ROW(gix_date_parse_lines),
     ROWS_AT(gix_date_parse_lines_at),
     ROW(gix_date_check_lines),
+    ROW(gix_date_ident_lines),
     ROW(gix_date_format),
     ROW(gix_date_format_or_unix),
     ROW(gix_date_format_by_pattern),
@@ -230,6 +239,8 @@ static const struct {
     ROW(gix_date_ident_time),
     ROW(gix_date_fsck),
     ROW(gix_date_write_ident),
+    ROW(gix_date_write_ident_as_is),
+    ROW(gix_date_git_time_text),
     ROWS_AT(git_date_parse_at),
     ROWS_AT(git_date_approxidate_at),
     ROWS_AT(git_date_expiry_at),
@@ -240,8 +251,10 @@ static const struct {
     ROWS_AT(git_date_show_git_time_at),
     ROWS_AT(git_date_show_by_format),
     ROW(git_date_age_at),
-    ROW(git_date_offset_of_decimal),
-    ROW(git_date_decimal_of_offset),
+    ROW(git_date_parse_offset),
+    ROW(git_date_offset_text),
+    ROW(git_date_offset_from_decimal),
+    ROW(git_date_offset_to_decimal),
 };
 
 /* A text of 60000 bytes: words that Git passes over, and this date at its end. */

@@ -9,7 +9,7 @@
 
 static const gix_date_instant now = {1698400800, 0};
 static const gix_date_time day = {1660797906, 28800};
-static const gix_date_git_time of_line = {1660797906, 800};
+static const gix_date_git_time of_line = {1660797906, 800, false};
 static const gix_date_careful_options usual = {0, 0, 0};
 static const gix_date_careful_options local = {GIX_DATE_QUARTERS, GIX_DATE_MOMENTS_ZONE, 0};
 static gix_date_zone zone;

@@ -16,9 +16,11 @@ from zoneinfo import ZoneInfo
 import numpy
 import pygit2
 from dateutil.parser import isoparse
-from gix_date import ISO8601_STRICT, Moment, Signature, Time, git, parse, parse_carefully, parse_header, parse_lines, parse_lines_into
+from gix_date import ISO8601_STRICT, Moment, Signature, Time, git
+from gix_date import parse, parse_carefully, parse_header, parse_idents_into, parse_lines, parse_lines_into
 
 ROUNDS, CALLS = 25, 4000
+PLACES = ("starts", "name_ends", "email_starts", "email_ends", "date_starts", "date_ends")
 HEADER, STRICT, MAIL = "1660797906 +0800", "2022-08-18T12:45:06+08:00", "Thu, 18 Aug 2022 12:45:06 +0800"
 WITHOUT_OFFSET, LINE = "2022-08-18T12:45:06", f"A U Thor <author@example.com> {HEADER}"
 AT = datetime(2023, 10, 27, 12, tzinfo=timezone(timedelta(hours=2)))
@@ -95,9 +97,12 @@ def main() -> None:
     for (call, text, _), least in zip(TABLE, nanoseconds()):
         print(f"| {call} | {f'`{text}`' if text else ''} | {least:.0f} |")
     source = random.Random(7)
-    with tempfile.NamedTemporaryFile() as file:
+    with tempfile.NamedTemporaryFile() as file, tempfile.NamedTemporaryFile() as ident_file:
         file.write(b"".join(b"%d +0800\n" % source.randrange(1700000000) for _ in range(1000000)))
         file.flush()
+        line = b"A U Thor <author@example.com> %d +0800\n"
+        ident_file.write(b"".join(line % source.randrange(1000000000, 1700000000) for _ in range(1000000)))
+        ident_file.flush()
 
         def program() -> None:
             with open(file.name, "rb") as lines:
@@ -111,6 +116,17 @@ def main() -> None:
             with open(file.name, "rb") as lines:
                 assert not parse_lines_into((numpy.empty(1000000, "int64"), numpy.empty(1000000, "int32")), lines)
 
+        def idents(**outputs) -> None:
+            with open(ident_file.name, "rb") as lines:
+                assert not parse_idents_into(lines, **outputs)
+
+        def idents_into_numpy() -> None:
+            idents(seconds=numpy.empty(1000000, "int64"), offsets=numpy.empty(1000000, "int32"), messages=numpy.empty(1000000, "int32"))
+
+        def all_into_numpy() -> None:
+            narrow = {name: numpy.empty(1000000, "int32") for name in ("offsets", "statuses", "messages")}
+            idents(**narrow, **{name: numpy.empty(1000000, "int64") for name in ("seconds", *PLACES)})
+
         def each() -> None:
             with open(file.name, "rb") as lines:
                 assert sum(1 for _ in parse_lines(lines)) == 1000000
@@ -121,6 +137,8 @@ def main() -> None:
             ("`parse_lines_into`, two arrays", into),
             ("`parse_lines_into`, two arrays of numpy", into_numpy),
             ("`parse_lines`", each),
+            ("`parse_idents_into` of identity lines of 46 bytes, seconds, offsets and messages in arrays of numpy", idents_into_numpy),
+            ("all that it tells", all_into_numpy),
         ):
             print(f"| {name} | {seconds(work):.2f} |")
 

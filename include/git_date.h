@@ -224,12 +224,23 @@ GIX_DATE_MUST_USE
 uint32_t git_date_age_at(const gix_date_time *time, const gix_date_instant *now, git_date_age *age)
     GIX_DATE_NONNULL(1, 2, 3);
 
+/* Reads the text of an offset alone, as +0200, -03:30 and +02, up to 25 hours: seconds east of UTC.
+ * GIX_DATE_INVALID_ZONE for any other text. */
+GIX_DATE_MUST_USE
+uint32_t git_date_parse_offset(const char *text, size_t text_len, int32_t *offset) GIX_DATE_NONNULL(3);
+
+/* Writes an offset in seconds east of UTC as Git does: a sign, hours in two digits or more, and two
+ * digits of minutes, as in +0530 and +51800. Seconds beyond whole minutes are dropped.
+ * GIX_DATE_NO_ROOM; 11 bytes are enough. */
+GIX_DATE_MUST_USE
+uint32_t git_date_offset_text(int32_t offset, char *out, size_t out_len, size_t *len) GIX_DATE_NONNULL(4);
+
 /* The offset that a number says as in Git's own code, where -130 is -0130: of hours, and two digits
  * of minutes. One of more seconds than 2147483647 is that many, with which no date is shown. */
-int32_t git_date_offset_of_decimal(int32_t decimal);
+int32_t git_date_offset_from_decimal(int32_t decimal);
 
 /* The number that says an offset so, without the seconds beyond whole minutes. */
-int32_t git_date_decimal_of_offset(int32_t offset);
+int32_t git_date_offset_to_decimal(int32_t offset);
 
 #ifdef __cplusplus
 }

@@ -105,7 +105,7 @@ enum gix_date_status {
     GIX_DATE_OUT_OF_MEMORY = 14,
     /* The line is no signature line. */
     GIX_DATE_NO_SIGNATURE = 15,
-    /* The name or the mail holds '<', '>', a newline or NUL. */
+    /* The name or the email holds '<', '>', a newline or NUL. */
     GIX_DATE_BAD_PART = 16,
     /* The text is not careful. *place is the first byte that does not fit, or the text's length if
      * its end is missing. No other status here has a place. */
@@ -115,7 +115,7 @@ enum gix_date_status {
     GIX_DATE_AFTER_YEAR_9999 = 23,
     /* Git finds no identity in the line: no '<', or no '>' after the first. */
     GIX_DATE_NO_IDENTITY = 27,
-    /* The name or the mail holds NUL, at which a text ends for Git. */
+    /* The name or the email holds NUL, at which a text ends for Git. */
     GIX_DATE_NUL_IN_PART = 28,
     /* The name has no bytes. */
     GIX_DATE_EMPTY_NAME = 29,
@@ -164,17 +164,17 @@ static inline const char *gix_date_status_text(uint32_t status)
     case GIX_DATE_OUT_OF_MEMORY:
         return "out of memory";
     case GIX_DATE_NO_SIGNATURE:
-        return "not a signature line: expected a name, <, a mail, > and a time";
+        return "not a signature line: expected a name, <, an email, > and a time";
     case GIX_DATE_BAD_PART:
-        return "a name or a mail holds <, >, a newline or NUL";
+        return "a name or an email holds <, >, a newline or NUL";
     case GIX_DATE_UNCLEAR:
         return "the date is not clear: expected a date, or counts and whole units, then ago";
     case GIX_DATE_AFTER_YEAR_9999:
         return "seconds after the year 9999: perhaps milliseconds, or a date and a clock in digits alone";
     case GIX_DATE_NO_IDENTITY:
-        return "no identity: expected a name, <, a mail and >";
+        return "no identity: expected a name, <, an email and >";
     case GIX_DATE_NUL_IN_PART:
-        return "a name or a mail holds NUL";
+        return "a name or an email holds NUL";
     case GIX_DATE_EMPTY_NAME:
         return "the name is empty";
     case GIX_DATE_ONLY_CRUD:
@@ -304,10 +304,10 @@ typedef struct gix_date_span {
     size_t len;
 } gix_date_span;
 
-/* The parts of a signature line: "name <mail> time". */
+/* The parts of a signature line: "name <email> time". */
 typedef struct gix_date_signature {
     gix_date_span name;
-    gix_date_span mail;
+    gix_date_span email;
     gix_date_span time;
 } gix_date_signature;
 
@@ -316,16 +316,20 @@ typedef struct gix_date_signature {
 typedef struct gix_date_git_time {
     int64_t seconds;
     int32_t offset;
+    bool minus_zero; /* a minus stands before an offset of 0, as in "-0000" */
 } gix_date_git_time;
 
-/* What Git shows of an identity line. Where it shows no date, the seconds and the offset have no
- * bytes, and the time is 0, 0. */
+/* What Git shows of an identity line. Where it shows no date, has_date and comes_back are false, the
+ * time is 0, 0, and the seconds and the offset have no bytes: they start where they would stand. */
 typedef struct gix_date_ident_parts {
     gix_date_span name;      /* may be empty */
-    gix_date_span mail;      /* may be empty */
+    gix_date_span email;     /* may be empty */
+    gix_date_span rest;      /* what follows the email and its '>', to the line's end */
     gix_date_span seconds;   /* digits, as they are written */
     gix_date_span offset;    /* a sign and digits, as they are written */
     gix_date_git_time shown; /* the time of these */
+    bool has_date;
+    bool comes_back; /* gix_date_write_ident_as_is of name, email and shown writes this line again */
 } gix_date_ident_parts;
 
 /* A zone. All zero it is UTC, and GIX_DATE_AT_OFFSET(7200) is the zone that is always two hours east
@@ -537,11 +541,11 @@ GIX_DATE_MUST_USE
 uint32_t gix_date_cut_signature(const char *line, size_t line_len, gix_date_signature *parts)
     GIX_DATE_NONNULL(3);
 
-/* Writes the signature line of a name, a mail and a time, without a newline. GIX_DATE_NO_ROOM,
+/* Writes the signature line of a name, an email and a time, without a newline. GIX_DATE_NO_ROOM,
  * GIX_DATE_NOT_TEXT, GIX_DATE_BAD_PART, GIX_DATE_OFFSET_TOO_WIDE. */
 GIX_DATE_MUST_USE
-uint32_t gix_date_write_signature(const char *name, size_t name_len, const char *mail,
-                                  size_t mail_len, const gix_date_time *time, char *out,
+uint32_t gix_date_write_signature(const char *name, size_t name_len, const char *email,
+                                  size_t email_len, const gix_date_time *time, char *out,
                                   size_t out_len, size_t *len) GIX_DATE_NONNULL(5, 8);
 
 /* Reads an identity line as Git shows it: what stands after "author ", "committer " or "tagger ", to the
@@ -561,14 +565,43 @@ uint32_t gix_date_ident_time(const gix_date_git_time *shown, gix_date_time *time
 GIX_DATE_MUST_USE
 uint32_t gix_date_fsck(const char *text, size_t text_len, size_t *place) GIX_DATE_NONNULL(3);
 
-/* Writes the identity line of a name, a mail and a time as Git does, without a newline: name and mail
+/* Reads the identity lines of a block in one call: block, lines and *bytes are those of gix_date_parse_lines.
+ * An array of no cells is left out. A call reads as many lines as the shortest of the others has cells
+ * for, and none where all are left out.
+ *
+ * Line i leaves what gix_date_ident and gix_date_fsck tell of it. statuses[i] is GIX_DATE_OK or
+ * GIX_DATE_NO_IDENTITY, and messages[i] is the number that gix_date_fsck answers. With GIX_DATE_OK
+ * parts[i] is what gix_date_ident stores, but the parts are those of the block: the email begins at
+ * block[parts[i].email.start]. With a date seconds[i] and offsets[i] are those of parts[i].shown. What is
+ * not told stays as it was, and no other cell changes. */
+GIX_DATE_MUST_USE
+size_t gix_date_ident_lines(const char *block, size_t block_len, gix_date_ident_parts *parts,
+                            size_t parts_len, int64_t *seconds, size_t seconds_len,
+                            int32_t *offsets, size_t offsets_len, uint32_t *messages,
+                            size_t messages_len, uint32_t *statuses, size_t statuses_len,
+                            size_t *bytes) GIX_DATE_NONNULL(13);
+
+/* Writes the identity line of a name, an email and a time as Git does, without a newline: name and email
  * without crud at both ends, and then without '<', '>' and newlines. Crud is a byte from 1 to 32, and
  * each of . , : ; < > " \ and '. They need not be UTF-8. GIX_DATE_NO_ROOM, GIX_DATE_NUL_IN_PART,
  * GIX_DATE_EMPTY_NAME, GIX_DATE_ONLY_CRUD, GIX_DATE_BEFORE_EPOCH, GIX_DATE_OFFSET_TOO_WIDE. */
 GIX_DATE_MUST_USE
-uint32_t gix_date_write_ident(const char *name, size_t name_len, const char *mail, size_t mail_len,
+uint32_t gix_date_write_ident(const char *name, size_t name_len, const char *email, size_t email_len,
                               const gix_date_time *time, char *out, size_t out_len, size_t *len)
     GIX_DATE_NONNULL(5, 8);
+
+/* Writes the identity line of a name, an email and a time as they are, without a newline. They need not
+ * be UTF-8, and may be empty. GIX_DATE_NO_ROOM, GIX_DATE_BAD_PART. */
+GIX_DATE_MUST_USE
+uint32_t gix_date_write_ident_as_is(const char *name, size_t name_len, const char *email,
+                                    size_t email_len, const gix_date_git_time *time, char *out,
+                                    size_t out_len, size_t *len) GIX_DATE_NONNULL(5, 8);
+
+/* Writes a time as an identity line has it: the seconds, a space, and a sign with at least four digits.
+ * GIX_DATE_NO_ROOM; 32 bytes are enough. */
+GIX_DATE_MUST_USE
+uint32_t gix_date_git_time_text(const gix_date_git_time *time, char *out, size_t out_len, size_t *len)
+    GIX_DATE_NONNULL(1, 4);
 
 #ifdef __cplusplus
 }

@@ -66,6 +66,16 @@ await_built() {
     until [ -z "${BUILT-}" ] || [ -e "$BUILT" ]; do sleep 1; done
 }
 
+# A page in a folder has to name what stands beside it alone by links, and each such file has to be there.
+links_stay_inside() {
+    local page link
+    for page in "$1"/*.md; do
+        for link in $(grep -oE '\]\([^()]*\)' "$page" | sed 's/^](//; s/)$//; s/#.*//'); do
+            [ -f "$1/$link" ] || fail "$page links to $link, which is not there"
+        done
+    done
+}
+
 # Builds the program where its script would, so that a build neither fails unseen nor speaks among the answers that are compared.
 build_program() {
     ./gix_date_tool check </dev/null

@@ -208,9 +208,9 @@ static void tell_raw(gix_date_time time, bool local, const gix_date_zone *in, an
     const gix_date_instant instant = {time.seconds, 0};
     if (local && is_refused_at(gix_date_offset_at(&instant, in, &time.offset), untouched.place, told))
         return;
-    const int32_t decimal = git_date_decimal_of_offset(time.offset);
+    const int32_t decimal = git_date_offset_to_decimal(time.offset);
     tell(told, "%" PRId64 " %+05" PRId32, time.seconds, decimal);
-    if (git_date_offset_of_decimal(decimal) != time.offset - time.offset % 60)
+    if (git_date_offset_from_decimal(decimal) != time.offset - time.offset % 60)
         tell_apart(told);
 }
 
@@ -326,7 +326,7 @@ static bool show_line_row(arguments *row, answer *told)
         return false;
     if (is_no_zone(read_zone(zone_name, &zone), told))
         return true;
-    const gix_date_git_time shown = {time.seconds, time.offset};
+    const gix_date_git_time shown = {time.seconds, time.offset, false};
     show_line_in(shown, mode, &now, &zone, told);
     show_line_in(shown, mode, &now, &zone, &other);
     agree(told, &other);

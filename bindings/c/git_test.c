@@ -205,7 +205,7 @@ static void moments(void)
     static const gix_date_instant odd = {0, 1000000000};
     static const gix_date_time day = {1251660000, 0};
     static const git_date_mode mode = {99, false};
-    static const gix_date_git_time of_line = {1251660000, 60};
+    static const gix_date_git_time of_line = {1251660000, 60, false};
     git_date_exact date = no_date;
     git_date_approximate guess = no_guess;
     git_date_expiry expiry = no_expiry;
@@ -245,7 +245,7 @@ static void moments(void)
 static void null_pointers(void)
 {
     static const gix_date_time day = {1251660000, 0};
-    static const gix_date_git_time of_line = {1251660000, 60};
+    static const gix_date_git_time of_line = {1251660000, 60, false};
     static const git_date_mode mode = {GIT_DATE_ISO8601, false};
     git_date_exact date = no_date;
     git_date_approximate guess = no_guess;
@@ -412,7 +412,7 @@ static const char locally[] = "2009-08-30 15:20:00 -0400";
 /* A buffer of each length, too short or not, for the text that is due. */
 static void expect_of_line(const char *due, git_date_mode mode, const gix_date_zone *zone)
 {
-    static const gix_date_git_time time = {1251660000, 60};
+    static const gix_date_git_time time = {1251660000, 60, false};
     static const gix_date_instant later = {1251667200, 0};
     for (size_t room = 0; room <= strlen(due) + 1; room++) {
         char *buffer = malloc(room + 1);
@@ -446,10 +446,10 @@ static void refused_dates_of_lines(void)
         git_date_mode mode;
         uint32_t status;
     } rows[] = {
-        {{0, -100}, {GIT_DATE_ISO8601, false}, GIX_DATE_BEFORE_EPOCH},
-        {{0, 59652315}, {GIT_DATE_ISO8601, false}, GIX_DATE_OFFSET_TOO_WIDE},
-        {{INT64_MAX, 0}, {GIT_DATE_ISO8601, false}, GIT_DATE_RANGE},
-        {{0, 0}, {9, false}, GIX_DATE_NO_SUCH_OPTION},
+        {{0, -100, false}, {GIT_DATE_ISO8601, false}, GIX_DATE_BEFORE_EPOCH},
+        {{0, 59652315, false}, {GIT_DATE_ISO8601, false}, GIX_DATE_OFFSET_TOO_WIDE},
+        {{INT64_MAX, 0, false}, {GIT_DATE_ISO8601, false}, GIT_DATE_RANGE},
+        {{0, 0, false}, {9, false}, GIX_DATE_NO_SUCH_OPTION},
     };
     char out[GIT_DATE_MAX_SHOWN_GIT_TIME];
     memset(out, '#', sizeof out);
@@ -593,13 +593,46 @@ static void decimal_offsets(void)
     static const int32_t told[][2] = {{59, 0}, {-59, 0}, {3661, 101}, {INT32_MAX, 59652314},
                                       {INT32_MIN, -59652314}};
     for (size_t i = 0; i < sizeof both / sizeof *both; i++) {
-        EXPECT(git_date_offset_of_decimal(both[i][0]) == both[i][1], "%d", both[i][0]);
-        EXPECT(git_date_decimal_of_offset(both[i][1]) == both[i][0], "%d", both[i][1]);
+        EXPECT(git_date_offset_from_decimal(both[i][0]) == both[i][1], "%d", both[i][0]);
+        EXPECT(git_date_offset_to_decimal(both[i][1]) == both[i][0], "%d", both[i][1]);
     }
     for (size_t i = 0; i < sizeof read / sizeof *read; i++)
-        EXPECT(git_date_offset_of_decimal(read[i][0]) == read[i][1], "%d", read[i][0]);
+        EXPECT(git_date_offset_from_decimal(read[i][0]) == read[i][1], "%d", read[i][0]);
     for (size_t i = 0; i < sizeof told / sizeof *told; i++)
-        EXPECT(git_date_decimal_of_offset(told[i][0]) == told[i][1], "%d", told[i][0]);
+        EXPECT(git_date_offset_to_decimal(told[i][0]) == told[i][1], "%d", told[i][0]);
+}
+
+/* The texts of offsets, as they are read and written. */
+static void offset_texts(void)
+{
+    static const struct {
+        const char *text;
+        int32_t offset;
+    } both[] = {{"+0000", 0}, {"+0530", 19800}, {"-0130", -5400}, {"-2559", -93540}},
+      read[] = {{"+02", 7200}, {"-03:30", -12600}, {"-0000", 0}},
+      written[] = {{"+51800", 1864800}, {"-0001", -119}, {"+0000", -59}, {"-59652314", INT32_MIN}};
+    static const char *const refused[] = {"", "0200", "+2", "+020", "+02:0", "+0260", "+2600", "+02000", "Z", "+02 "};
+    char out[16];
+    size_t len;
+    int32_t offset;
+    for (size_t i = 0; i < sizeof both / sizeof *both; i++) {
+        EXPECT(git_date_parse_offset(TEXT(both[i].text), &offset) == GIX_DATE_OK && offset == both[i].offset, "%s", both[i].text);
+        EXPECT(git_date_offset_text(offset, out, sizeof out, &len) == GIX_DATE_OK && len == strlen(both[i].text) &&
+                   !memcmp(out, both[i].text, len),
+               "%s", both[i].text);
+    }
+    for (size_t i = 0; i < sizeof read / sizeof *read; i++)
+        EXPECT(git_date_parse_offset(TEXT(read[i].text), &offset) == GIX_DATE_OK && offset == read[i].offset, "%s", read[i].text);
+    for (size_t i = 0; i < sizeof written / sizeof *written; i++)
+        EXPECT(git_date_offset_text(written[i].offset, out, sizeof out, &len) == GIX_DATE_OK &&
+                   len == strlen(written[i].text) && !memcmp(out, written[i].text, len),
+               "%s", written[i].text);
+    for (size_t i = 0; i < sizeof refused / sizeof *refused; i++) {
+        offset = 99;
+        EXPECT(git_date_parse_offset(TEXT(refused[i]), &offset) == GIX_DATE_INVALID_ZONE && offset == 99, "%s", refused[i]);
+    }
+    memset(out, '#', sizeof out);
+    EXPECT(git_date_offset_text(0, out, 4, &len) == GIX_DATE_NO_ROOM && len == 5 && out[0] == '#', "no room");
 }
 
 enum { LONG = 60000 };
@@ -737,6 +770,7 @@ int main(void)
     without_memory(refused_dates_of_lines, "dates of lines that are not shown");
     without_memory(ages, "ages");
     without_memory(decimal_offsets, "decimal offsets");
+    without_memory(offset_texts, "offset texts");
     without_memory(long_texts, "long texts");
     without_memory(refused_formats, "formats that are refused");
     shown_dates();

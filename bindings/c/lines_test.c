@@ -234,6 +234,157 @@ static void checked_lines(void)
     }
 }
 
+/* The arrays of a call for identity lines. */
+typedef struct told {
+    gix_date_ident_parts parts[ROOM];
+    int64_t seconds[ROOM];
+    int32_t offsets[ROOM];
+    uint32_t messages[ROOM], statuses[ROOM];
+} told;
+
+/* What no call stores. */
+static told none_told(void)
+{
+    static const gix_date_ident_parts no_parts = {{9, 9}, {9, 9}, {9, 9}, {9, 9}, {9, 9}, {-77, -7, true}, true, true};
+    told made;
+    for (size_t i = 0; i < ROOM; i++) {
+        made.parts[i] = no_parts;
+        made.seconds[i] = -77;
+        made.offsets[i] = -7;
+        made.messages[i] = made.statuses[i] = NO_STATUS;
+    }
+    return made;
+}
+
+/* Stores what the calls for one line tell of the next line of a block, and answers where it ends. */
+static size_t tell_line(const char *block, size_t start, size_t len, told *due, size_t i)
+{
+    const char *line = block + start, *end = memchr(line, '\n', len - start);
+    const size_t line_len = end ? (size_t)(end - line) : len - start;
+    gix_date_ident_parts *parts = &due->parts[i];
+    size_t place;
+    due->messages[i] = gix_date_fsck(line, line_len, &place);
+    due->statuses[i] = gix_date_ident(line, line_len, parts);
+    if (due->statuses[i] == GIX_DATE_OK) {
+        parts->name.start += start;
+        parts->email.start += start;
+        parts->rest.start += start;
+        parts->seconds.start += start;
+        parts->offset.start += start;
+        if (parts->has_date) {
+            due->seconds[i] = parts->shown.seconds;
+            due->offsets[i] = parts->shown.offset;
+        }
+    }
+    return start + line_len + (end != NULL);
+}
+
+static bool is_span(gix_date_span a, gix_date_span b)
+{
+    return a.start == b.start && a.len == b.len;
+}
+
+static bool are_parts(const gix_date_ident_parts *a, const gix_date_ident_parts *b)
+{
+    return is_span(a->name, b->name) && is_span(a->email, b->email) && is_span(a->rest, b->rest) &&
+           is_span(a->seconds, b->seconds) && is_span(a->offset, b->offset) &&
+           a->shown.seconds == b->shown.seconds && a->shown.offset == b->shown.offset &&
+           a->shown.minus_zero == b->shown.minus_zero && a->has_date == b->has_date &&
+           a->comes_back == b->comes_back;
+}
+
+static bool is_told(const told *a, const told *b, size_t i)
+{
+    return are_parts(&a->parts[i], &b->parts[i]) && a->seconds[i] == b->seconds[i] &&
+           a->offsets[i] == b->offsets[i] && a->messages[i] == b->messages[i] &&
+           a->statuses[i] == b->statuses[i];
+}
+
+/* How many cells each array of a call has. */
+typedef struct rooms {
+    size_t parts, seconds, offsets, messages, statuses;
+} rooms;
+
+/* Reads a block into arrays of so many cells, and sees that so many lines are told as is due. */
+static void expect_told(const char *block, size_t len, rooms room, const told *due, size_t count,
+                        size_t bytes, const char *what)
+{
+    const told before = none_told();
+    told seen = before, wanted = before;
+    size_t taken = 99;
+    size_t done = gix_date_ident_lines(
+        block, len, room.parts ? seen.parts : NULL, room.parts, room.seconds ? seen.seconds : NULL,
+        room.seconds, room.offsets ? seen.offsets : NULL, room.offsets,
+        room.messages ? seen.messages : NULL, room.messages, room.statuses ? seen.statuses : NULL,
+        room.statuses, &taken);
+    EXPECT(done == count && taken == bytes, "%s: %zu lines, %zu bytes", what, done, taken);
+    for (size_t i = 0; i < count; i++) {
+        wanted.parts[i] = room.parts ? due->parts[i] : before.parts[i];
+        wanted.seconds[i] = room.seconds ? due->seconds[i] : before.seconds[i];
+        wanted.offsets[i] = room.offsets ? due->offsets[i] : before.offsets[i];
+        wanted.messages[i] = room.messages ? due->messages[i] : before.messages[i];
+        wanted.statuses[i] = room.statuses ? due->statuses[i] : before.statuses[i];
+    }
+    for (size_t i = 0; i < ROOM; i++)
+        EXPECT(is_told(&seen, &wanted, i), "%s: line %zu: %u, %u", what, i, seen.statuses[i],
+               seen.messages[i]);
+}
+
+/* Whether a part of a block is this text. */
+static bool is_text(const char *block, gix_date_span part, const char *text)
+{
+    return part.len == strlen(text) && memcmp(block + part.start, text, part.len) == 0;
+}
+
+/* Identity lines are told of as the calls for one line tell, in each choice of arrays, and in as many lines as
+ * the shortest has cells for, whichever it is. */
+static void identity_lines(void)
+{
+    static const char block[] = "A U Thor <author@example.com> 1660797906 +0800\n"
+                                "A <a>\n"
+                                "nobody\n"
+                                "A <a> 5 +0000\0x\n"
+                                "J\xf6rg  <j@e> <b>  05 +0530 x\n"
+                                "\n"
+                                "B <> 7 -0000";
+    enum { LINES = 7 };
+    const size_t len = sizeof block - 1;
+    const rooms full = {ROOM, ROOM, ROOM, ROOM, ROOM};
+    told due = none_told();
+    size_t ends[LINES + 1] = {0};
+    for (size_t i = 0; i < LINES; i++)
+        ends[i + 1] = tell_line(block, ends[i], len, &due, i);
+    EXPECT(ends[LINES] == len, "%zu bytes", ends[LINES]);
+    EXPECT(is_text(block, due.parts[0].email, "author@example.com") &&
+               is_text(block, due.parts[4].name, "J\xf6rg") &&
+               is_text(block, due.parts[6].offset, "-0000"),
+           "parts of the block");
+    EXPECT(due.seconds[0] == 1660797906 && due.offsets[0] == 800 && due.messages[0] == 0 &&
+               due.seconds[1] == -77 && due.offsets[1] == -7 && due.statuses[2] == GIX_DATE_NO_IDENTITY &&
+               due.messages[3] == GIX_DATE_FSCK_NUL_IN_HEADER && due.parts[6].shown.minus_zero,
+           "what is due");
+    for (size_t given = 0; given < 32; given++) {
+        for (size_t cells = 1; cells <= ROOM; cells++) {
+            const rooms room = {given & 1 ? cells : 0, given & 2 ? cells : 0, given & 4 ? cells : 0,
+                                given & 8 ? cells : 0, given & 16 ? cells : 0};
+            const size_t count = given == 0 ? 0 : cells < LINES ? cells : LINES;
+            expect_told(block, len, room, &due, count, ends[count], "a choice of arrays");
+        }
+    }
+    for (size_t cells = 1; cells <= LINES; cells++) {
+        const rooms shortest[] = {
+            {cells, ROOM, ROOM, ROOM, ROOM}, {ROOM, cells, ROOM, ROOM, ROOM},
+            {ROOM, ROOM, cells, ROOM, ROOM}, {ROOM, ROOM, ROOM, cells, ROOM},
+            {ROOM, ROOM, ROOM, ROOM, cells},
+        };
+        for (size_t i = 0; i < 5; i++)
+            expect_told(block, len, shortest[i], &due, cells, ends[cells], "a short array");
+    }
+    /* No line, and none after the last newline. */
+    expect_told(NULL, 0, full, &due, 0, 0, "no block");
+    expect_told(block, ends[2], full, &due, 2, ends[2], "two lines");
+}
+
 /* Blocks and arrays of no bytes, at NULL. */
 static void null_pointers(void)
 {
@@ -293,6 +444,7 @@ static void *reads_lines(void *unused)
         ends_of_lines();
         readers();
         checked_lines();
+        identity_lines();
         gix_date_zone zone = zone_of(BYTES(zone_file));
         lines_at_moments(&zone);
         gix_date_zone_free(&zone);
@@ -307,6 +459,7 @@ int main(void)
     without_memory(readers, "readers");
     without_memory(no_moments, "no moments");
     without_memory(checked_lines, "checked lines");
+    without_memory(identity_lines, "identity lines");
     without_memory(null_pointers, "blocks at NULL");
     without_memory(many_lines, "many lines");
     lines_in_new_york();

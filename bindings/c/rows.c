@@ -434,7 +434,7 @@ static void cut_signature(field line, answer *told)
     gix_date_signature parts;
     if (is_refused(gix_date_cut_signature(TEXT(line), &parts), told))
         return;
-    const gix_date_span spans[] = {parts.name, parts.mail, parts.time};
+    const gix_date_span spans[] = {parts.name, parts.email, parts.time};
     for (size_t i = told->len = 0; i < LENGTH(spans); i++) {
         memcpy(told->bytes + told->len, line.bytes + spans[i].start, spans[i].len);
         told->len += spans[i].len;
@@ -460,12 +460,12 @@ static void signature_time(field line, answer *told)
 
 static bool write_signature(arguments *row, answer *told)
 {
-    field name = take(row), mail = take(row);
+    field name = take(row), email = take(row);
     gix_date_time time;
     if (!take_time(row, &time))
         return false;
     char *out = told->bytes;
-    is_refused(gix_date_write_signature(TEXT(name), TEXT(mail), &time, out, MAX_ANSWER, &told->len),
+    is_refused(gix_date_write_signature(TEXT(name), TEXT(email), &time, out, MAX_ANSWER, &told->len),
                told);
     return true;
 }
@@ -476,33 +476,55 @@ static void add(answer *told, field line, gix_date_span part)
     told->len += part.len;
 }
 
-/* The parts of a line that Git shows, with these two texts after its name and its mail; then the
+/* The parts of a line that Git shows, with these two texts after its name and its email; then the
  * seconds or nothing. */
 static void ident(field line, const char *opening, bool has_seconds, answer *told)
 {
     gix_date_ident_parts parts;
+    keep_identity(line);
     if (is_refused(gix_date_ident(TEXT(line), &parts), told))
         return;
     told->len = 0;
     add(told, line, parts.name);
     memcpy(told->bytes + told->len, opening, strlen(opening));
     told->len += strlen(opening);
-    add(told, line, parts.mail);
+    add(told, line, parts.email);
     told->bytes[told->len++] = '>';
     if (has_seconds)
         add(told, line, parts.seconds);
 }
 
+/* The line that is written of what Git shows of it, if the same comes back. */
+static void ident_again(field line, answer *told)
+{
+    gix_date_ident_parts parts;
+    if (is_refused(gix_date_ident(TEXT(line), &parts), told))
+        return;
+    if (!parts.comes_back) {
+        told->refused = true;
+        tell(told, "%s", "NotBack");
+        return;
+    }
+    const char *name = line.bytes + parts.name.start, *email = line.bytes + parts.email.start;
+    is_refused(gix_date_write_ident_as_is(name, parts.name.len, email, parts.email.len, &parts.shown,
+                                          told->bytes, MAX_ANSWER, &told->len),
+               told);
+    const size_t end = parts.rest.start + parts.rest.len;
+    if (!parts.has_date || told->len != end || memcmp(told->bytes, line.bytes, end) != 0)
+        tell_apart(told);
+}
+
 /* Reads the date of a line; what Git shows where it shows none is nothing and 0, 0. */
 static bool has_date(field line, gix_date_ident_parts *parts, answer *told)
 {
+    keep_identity(line);
     if (is_refused(gix_date_ident(TEXT(line), parts), told))
         return false;
-    if (parts->seconds.len > 0 && parts->offset.len > 1)
+    if (parts->has_date && parts->seconds.len > 0 && parts->offset.len > 1)
         return true;
     told->refused = true;
     tell(told, "%s", "NoDate");
-    if (parts->seconds.len > 0 || parts->offset.len > 0 || parts->shown.seconds != 0 || parts->shown.offset != 0)
+    if (parts->has_date || parts->seconds.len > 0 || parts->offset.len > 0 || parts->shown.seconds != 0 || parts->shown.offset != 0)
         tell_apart(told);
     return false;
 }
@@ -527,6 +549,7 @@ static void fsck_of(field line, answer *told)
 {
     size_t place = no_place;
     uint32_t message = gix_date_fsck(TEXT(line), &place);
+    keep_identity(line);
     told->refused = false;
     tell(told, "%s", message == GIX_DATE_FSCK_PASSES ? "none" : gix_date_fsck_id(message));
     if (message == GIX_DATE_FSCK_PASSES ? place != no_place : place > line.len)
@@ -535,12 +558,12 @@ static void fsck_of(field line, answer *told)
 
 static bool write_ident(arguments *row, answer *told)
 {
-    field name = take(row), mail = take(row);
+    field name = take(row), email = take(row);
     gix_date_time time;
     if (!take_time(row, &time))
         return false;
     char *out = told->bytes;
-    is_refused(gix_date_write_ident(TEXT(name), TEXT(mail), &time, out, MAX_ANSWER, &told->len),
+    is_refused(gix_date_write_ident(TEXT(name), TEXT(email), &time, out, MAX_ANSWER, &told->len),
                told);
     return true;
 }
@@ -552,6 +575,8 @@ static enum outcome ident_call(const char *name, arguments *row, answer *told)
         ident(take(row), "<", true, told);
     else if (!strcmp(name, "ident_label"))
         ident(take(row), " <", false, told);
+    else if (!strcmp(name, "ident_again"))
+        ident_again(take(row), told);
     else if (!strcmp(name, "ident_offset") || !strcmp(name, "git_time") || !strcmp(name, "ident_time"))
         ident_date(name, take(row), told);
     else if (!strcmp(name, "fsck_of"))

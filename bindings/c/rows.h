@@ -68,7 +68,7 @@ uint32_t read_zone(field name, gix_date_zone *zone);
 void in_copy(gix_date_zone *zone);
 
 /* How lines are read: by a reader of enum gix_date_line_reader, or by one of these. */
-enum { EXACT_LINES = 100, APPROXIMATE_LINES, CHECKED };
+enum { EXACT_LINES = 100, APPROXIMATE_LINES, CHECKED, IDENTITIES };
 
 /* A reader of lines, its options, and its moment as a row has it; no text where it has none. */
 typedef struct line_reader {
@@ -80,6 +80,9 @@ typedef struct line_reader {
 /* Keeps a text, and what the call for one text left of it, for the block of its reader at its moment. A
  * text with a newline is no line. The status of a check is 0 or 1. */
 void keep_line(const line_reader *reader, field text, uint32_t status, gix_date_time time);
+
+/* Keeps a text for the block of identity lines. */
+void keep_identity(field text);
 
 /* Reads the texts that were kept as the lines of blocks, and forgets them. Says how many there were, and
  * which blocks differ, and answers how many do. */

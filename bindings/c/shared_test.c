@@ -59,7 +59,7 @@ static bool reads_as_git(const gix_date_zone *zone)
 static bool shows(const gix_date_zone *zone)
 {
     static const gix_date_time ten = {TEN, 0};
-    static const gix_date_git_time of_line = {TEN, 100};
+    static const gix_date_git_time of_line = {TEN, 100, false};
     static const git_date_mode mode = {GIT_DATE_ISO8601, true};
     static const char due[] = "2023-11-14 10:00:00 -0500";
     char out[GIT_DATE_MAX_SHOWN_GIT_TIME];

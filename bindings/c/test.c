@@ -730,14 +730,14 @@ static void signatures(void)
     const char *line = "A U Thor <author@example.com> 1660874655 +0800";
     gix_date_signature parts = {{9, 9}, {9, 9}, {9, 9}};
     EXPECT(gix_date_cut_signature(TEXT(line), &parts) == GIX_DATE_OK, "%s", line);
-    EXPECT(is_part(line, parts.name, "A U Thor") && is_part(line, parts.mail, "author@example.com"),
+    EXPECT(is_part(line, parts.name, "A U Thor") && is_part(line, parts.email, "author@example.com"),
            "%s", line);
     EXPECT(is_part(line, parts.time, "1660874655 +0800") && parts.name.start == 0, "%s", line);
     gix_date_signature same = {{9, 9}, {9, 9}, {9, 9}};
     EXPECT(gix_date_cut_signature(TEXT("A <a>"), &same) == GIX_DATE_NO_SIGNATURE, "no time");
     EXPECT(gix_date_cut_signature(TEXT(""), &same) == GIX_DATE_NO_SIGNATURE, "no line");
     EXPECT(gix_date_cut_signature(BYTES("A <\xff> 1"), &same) == GIX_DATE_NOT_TEXT, "no text");
-    EXPECT(same.name.start == 9 && same.mail.len == 9 && same.time.len == 9,
+    EXPECT(same.name.start == 9 && same.email.len == 9 && same.time.len == 9,
            "a refusal stores nothing");
 
     size_t wanted = strlen(line);
@@ -779,24 +779,29 @@ static void signatures(void)
 static void identities(void)
 {
     const char *line = "J\xf6rg  <j@e> <b>  05 +0530 x\nA <a> 5 +0000";
-    gix_date_ident_parts parts, same = {{9, 9}, {9, 9}, {9, 9}, {9, 9}, {9, 9}};
+    gix_date_ident_parts parts, same = {.name = {9, 9}, .offset = {9, 9}, .shown = {9, 9, true}};
     EXPECT(gix_date_ident(TEXT(line), &parts) == GIX_DATE_OK, "%s", line);
-    EXPECT(is_part(line, parts.name, "J\xf6rg") && is_part(line, parts.mail, "j@e"), "%s", line);
+    EXPECT(is_part(line, parts.name, "J\xf6rg") && is_part(line, parts.email, "j@e"), "%s", line);
     EXPECT(is_part(line, parts.seconds, "05") && is_part(line, parts.offset, "+0530"), "%s", line);
     EXPECT(parts.shown.seconds == 5 && parts.shown.offset == 530, "%s", line);
+    EXPECT(is_part(line, parts.rest, " <b>  05 +0530 x") && parts.has_date && !parts.comes_back, "%s",
+           line);
     EXPECT(gix_date_ident(TEXT("A <a> 5"), &parts) == GIX_DATE_OK, "no date");
     EXPECT(parts.seconds.len == 0 && parts.offset.len == 0 && parts.shown.seconds == 0 &&
-               parts.shown.offset == 0,
+               parts.shown.offset == 0 && !parts.has_date && !parts.comes_back,
            "no date");
+    EXPECT(parts.rest.start == 5 && parts.seconds.start == 6 && parts.offset.start == 7,
+           "where a date would stand");
     EXPECT(gix_date_ident(TEXT("A <a> 9223372036854775808 -0130"), &parts) == GIX_DATE_OK &&
                parts.seconds.len == 19 && parts.offset.len == 5 && parts.shown.seconds == 0 &&
                parts.shown.offset == 0,
            "too many seconds");
     EXPECT(gix_date_ident(TEXT("A a> 5 +0000"), &same) == GIX_DATE_NO_IDENTITY, "no identity");
-    EXPECT(same.name.start == 9 && same.offset.len == 9 && same.shown.seconds == 9,
+    EXPECT(same.name.start == 9 && same.offset.len == 9 && same.shown.minus_zero,
            "a refusal stores nothing");
 
-    static const gix_date_git_time minutes = {5, 60}, widest = {5, -59652314}, wide = {5, 59652315};
+    static const gix_date_git_time minutes = {5, 60, false}, widest = {5, -59652314, false},
+                                   wide = {5, 59652315, false};
     gix_date_time time = untouched;
     EXPECT(gix_date_ident_time(&wide, &time) == GIX_DATE_OFFSET_TOO_WIDE &&
                is_time(time, untouched.seconds, untouched.offset),
@@ -883,6 +888,51 @@ static void written_identities(void)
     EXPECT(holds(out, sizeof out, "J\xf6rg <> 5 -0130", len), "bytes that are no text");
 }
 
+/* What was read is written as it was: the lines are as `git cat-file` prints them. */
+static void lines_as_they_are(void)
+{
+    static const char *const kept[] = {
+        "A <a@b> 5 -0000", " <> 0 +0060", "J\xf6rg.  <j e> 5 +51800", "A <a> 1660874655 -0130",
+    };
+    static const char *const other[] = {
+        "A  <a@b> 5 +0000", "A <a@b> 05 +0000", "A <a@b> 5 --700", "A <a@b>5 +0000", "A <a@b> 5",
+    };
+    gix_date_ident_parts parts;
+    char out[64];
+    size_t len = 99;
+    for (size_t i = 0; i < sizeof kept / sizeof *kept; i++) {
+        const char *line = kept[i];
+        EXPECT(gix_date_ident(TEXT(line), &parts) == GIX_DATE_OK && parts.has_date, "%s", line);
+        const char *name = line + parts.name.start, *email = line + parts.email.start;
+        memset(out, '#', sizeof out);
+        uint32_t status = gix_date_write_ident_as_is(name, parts.name.len, email, parts.email.len,
+                                                     &parts.shown, out, sizeof out, &len);
+        bool is_same = status == GIX_DATE_OK && holds(out, sizeof out, line, len);
+        EXPECT(is_same == parts.comes_back, "%s", line);
+        EXPECT(is_same == (i != 2), "a blank ends the name of one: %s", line);
+        size_t time = parts.seconds.start;
+        EXPECT(gix_date_git_time_text(&parts.shown, out, sizeof out, &len) == GIX_DATE_OK &&
+                   len == strlen(line + time) && !memcmp(out, line + time, len),
+               "%s", line);
+    }
+    for (size_t i = 0; i < sizeof other / sizeof *other; i++)
+        EXPECT(gix_date_ident(TEXT(other[i]), &parts) == GIX_DATE_OK && !parts.comes_back, "%s",
+               other[i]);
+
+    static const gix_date_git_time first = {0, 0, false}, unknown = {0, 0, true};
+    memset(out, '#', sizeof out);
+    EXPECT(gix_date_write_ident_as_is(TEXT("A"), TEXT("a>"), &first, out, sizeof out, &len) ==
+                   GIX_DATE_BAD_PART &&
+               len == 0 && is_untouched(out, sizeof out),
+           "a bracket");
+    EXPECT(gix_date_write_ident_as_is(TEXT(""), TEXT(""), &unknown, out, 10, &len) == GIX_DATE_NO_ROOM &&
+               len == 11 && is_untouched(out, sizeof out),
+           "no room");
+    EXPECT(gix_date_git_time_text(&unknown, out, 6, &len) == GIX_DATE_NO_ROOM && len == 7 &&
+               is_untouched(out, sizeof out),
+           "no room");
+}
+
 static void *reads_and_formats(void *unused)
 {
     (void)unused;
@@ -937,8 +987,8 @@ static void status_texts(void)
         "an offset of 100 hours or more from UTC cannot be written",
         "the pattern cannot be printed",
         "out of memory",
-        "not a signature line: expected a name, <, a mail, > and a time",
-        "a name or a mail holds <, >, a newline or NUL",
+        "not a signature line: expected a name, <, an email, > and a time",
+        "a name or an email holds <, >, a newline or NUL",
         "the date is not clear: expected a date, or counts and whole units, then ago",
         "unknown status",
     };
@@ -949,8 +999,8 @@ static void status_texts(void)
                   "seconds after the year 9999: perhaps milliseconds, or a date and a clock in digits alone") == 0,
            "after the statuses of git_date.h");
     static const char *const later[] = {
-        "no identity: expected a name, <, a mail and >",
-        "a name or a mail holds NUL",
+        "no identity: expected a name, <, an email and >",
+        "a name or an email holds NUL",
         "the name is empty",
         "the name consists only of disallowed characters",
         "a time before 1970 cannot be written or shown",
@@ -995,6 +1045,7 @@ int main(void)
     without_memory(identities, "identity lines");
     without_memory(messages, "messages of fsck");
     written_identities();
+    lines_as_they_are();
     in_threads(reads_and_formats);
     if (failures > 0)
         return 1;

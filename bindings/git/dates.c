@@ -62,7 +62,7 @@ static const gix_date_zone *own_zone(void)
 
 static void add_time(struct strbuf *out, gix_date_time time)
 {
-    strbuf_addf(out, "%" PRId64 " %+05d", time.seconds, git_date_decimal_of_offset(time.offset));
+    strbuf_addf(out, "%" PRId64 " %+05d", time.seconds, git_date_offset_to_decimal(time.offset));
 }
 
 /* Reads a date exactly at the system's moment, in a zone. */
@@ -184,7 +184,7 @@ static gix_date_time time_of(timestamp_t seconds, int tz)
     gix_date_time time = {0, 0};
     if (!date_overflows(seconds)) {
         time.seconds = seconds;
-        time.offset = git_date_offset_of_decimal(tz);
+        time.offset = git_date_offset_from_decimal(tz);
     }
     return time;
 }
@@ -219,7 +219,7 @@ static void add_shown(struct strbuf *out, timestamp_t seconds, int tz, git_date_
 {
     static const gix_date_git_time epoch;
     const gix_date_instant now = present();
-    const gix_date_git_time time = {date_overflows(seconds) ? 0 : seconds, date_overflows(seconds) ? 0 : tz};
+    const gix_date_git_time time = {date_overflows(seconds) ? 0 : seconds, date_overflows(seconds) ? 0 : tz, false};
     const gix_date_zone *zone = mode.local || mode.kind == GIT_DATE_HUMAN ? own_zone() : &utc;
     char shown[GIT_DATE_MAX_SHOWN_GIT_TIME];
     size_t len;
@@ -258,7 +258,7 @@ static void add_by_git(struct strbuf *out, gix_date_time time, const struct date
     } else if (mode->local) {
         time.offset = tm_to_time_t(&clock) < 0 ? 0 : clock.tm_gmtoff;
     }
-    strbuf_addftime(out, mode->strftime_fmt, &clock, git_date_decimal_of_offset(time.offset), !mode->local);
+    strbuf_addftime(out, mode->strftime_fmt, &clock, git_date_offset_to_decimal(time.offset), !mode->local);
 }
 
 const char *show_date(timestamp_t seconds, int tz, const struct date_mode *mode)

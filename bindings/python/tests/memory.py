@@ -10,7 +10,7 @@ from array import array
 from typing import Callable, Dict, List, Optional, Tuple, Union
 
 from gix_date import ISO8601, Moment, Refused, Time, _library, git, is_canonical_header, parse, parse_carefully, parse_header
-from gix_date import GitTime, fsck, parse_ident, write_ident, write_signature
+from gix_date import GitTime, fsck, parse_ident, write_ident, write_ident_as_is, write_signature
 
 from rows import FOLDER
 
@@ -27,6 +27,8 @@ RULE, FILE = "EST5EDT,M3.2.0,M11.1.0", (FOLDER / "new_york_2023.tzif").read_byte
 NOWS = [Moment(1698400800, 0, zone) for zone in (7200, RULE, FILE)]
 MODE = git.DateMode(git.DateKind.ISO8601, True)
 LINES = b"1660797906 +0800\n" * 60
+DATES = b"2005-04-07 22:13:13\n" * 100
+IDENTS = b"A <a> 1660797906 +0800\nB\n" * 30
 for now in NOWS:
     parse("@5", now)  # so that zones are kept
 
@@ -42,31 +44,49 @@ def of_new_text(text: bytes) -> bool:
 
 
 class Filled:
-    """Two outputs, into which the lines are put after one number."""
+    """Outputs, into which the lines are put after one number."""
 
-    def __init__(self, seconds: Output, offsets: Output) -> None:
-        self.outputs, self.refused = (seconds, offsets), Refused()
+    def __init__(self, *outputs: Output) -> None:
+        self.outputs, self.refused = outputs, Refused()
 
     def clear(self) -> None:
         for output in self.outputs:
             del output[1:]
+        self.refused.clear()
         self.refused.lines = 0
 
     def __call__(self, now: Optional[Moment]) -> int:
         return _library.add_lines(self.outputs, 1, self.refused, 0, LINES, 0, len(LINES), now, None)
 
     def is_whole(self) -> bool:
-        """Whether all lines are there, or none, and as many in both."""
-        return [len(output) for output in self.outputs] == [1 + self.refused.lines] * 2
+        """Whether all lines are there, or none, and as many in each."""
+        return {len(output) for output in self.outputs} == {1 + self.refused.lines}
 
 
-FILLED = [Filled(array("q", [7]), array("i", [7])), Filled([7], [7])]
-VIEWS, NONE_REFUSED = (memoryview(array("q", [7] * 60)), memoryview(array("i", [7] * 60))), Refused()
+class FilledByIdents(Filled):
+    """The same of identity lines, of which each second is refused."""
+
+    def __call__(self) -> int:  # type: ignore[override]
+        return _library.add_idents(self.outputs, 1, self.refused, 0, IDENTS, 0, len(IDENTS))
+
+    def is_whole(self) -> bool:
+        return super().is_whole() and list(self.refused) == list(range(2, 1 + self.refused.lines, 2))
+
+
+CODES = "qiiiqqqqqq"
+IDENTS_FILLED = [FilledByIdents(*(array(code, [7]) for code in CODES)), FilledByIdents(*([7] for _ in CODES))]
+FILLED = [Filled(array("q", [7]), array("i", [7])), Filled([7], [7]), *IDENTS_FILLED]
+VIEWS, VIEWED = tuple(memoryview(array(code, [7] * 60)) for code in CODES), Refused()
 
 
 def into_views(now: Optional[Moment]) -> int:
-    NONE_REFUSED.lines = 0
-    return _library.add_lines(VIEWS, 0, NONE_REFUSED, 0, LINES, 0, len(LINES), now, None)
+    VIEWED.lines = 0
+    return _library.add_lines(VIEWS[:2], 0, VIEWED, 0, LINES, 0, len(LINES), now, None)
+
+
+def idents_into_views() -> int:
+    VIEWED.lines = 0
+    return _library.add_idents(VIEWS, 0, VIEWED, 0, IDENTS, 0, len(IDENTS))
 
 
 CALLS: List[Tuple[str, Callable[..., object], Tuple[object, ...]]] = [
@@ -87,17 +107,26 @@ CALLS: List[Tuple[str, Callable[..., object], Tuple[object, ...]]] = [
     ("cut_signature", _library.cut_signature, ("A <a> 0 +0000",)),
     ("write_signature", write_signature, ("A" * 1000, "a", TIME)),
     ("parse_ident", parse_ident, ("A <a> 5 +0000",)),
+    ("parse_ident", parse_ident, ("A" * 1000 + " <a> 5",)),
     ("fsck", fsck, ("A <a> 05 +0000",)),
     ("write_ident", write_ident, ("A" * 1000, "a", TIME)),
+    ("write_ident_as_is", write_ident_as_is, ("A" * 1000, "a", GitTime(5, 60))),
+    ("git_time_text", str, (GitTime(5, 60),)),
     ("to_time", GitTime(5, 60).to_time, ()),
     ("mode_named", _library.mode_named, ("iso",)),
+    ("parse_offset", git.parse_offset, ("-03:30",)),
+    ("offset_text", git.offset_text, (-12600,)),
+    ("offset_from_decimal", git.offset_from_decimal, (-330,)),
+    ("offset_to_decimal", git.offset_to_decimal, (-12600,)),
     ("zone_path", _library.zone_path, (b"Europe/Berlin", b"")),
     ("zone_file", _library.zone_file, (bytes(FOLDER / "new_york_2023.tzif"),)),
     *(("Zone", in_new_zone, (zone,)) for zone in (RULE, FILE, "no rule", b"no file", b"TZif")),
     *(("parse", parse, ("2 days ago", now)) for now in NOWS),
     *(("parse_carefully", parse_carefully, ("2 days ago", now)) for now in NOWS),
     *(("times_of_lines", _library.times_of_lines, (0, b"@5\n" * 100, 0, 300, now, None)) for now in [None, *NOWS]),
-    *(("add_lines", add, (now,)) for now in [None, *NOWS] for add in [*FILLED, into_views]),
+    *(("add_lines", add, (now,)) for now in [None, *NOWS] for add in [*FILLED[:2], into_views]),
+    *(("add_idents", add, ()) for add in [*IDENTS_FILLED, idents_into_views]),
+    *(("times_of_lines", _library.times_of_lines, (5, DATES, 0, len(DATES), now, None)) for now in NOWS),
     *(("parse_date", git.parse_date, ("2005-04-07 22:13:13", now)) for now in NOWS),
     *(("approxidate", git.approxidate, ("2 days ago", now)) for now in NOWS),
     *(("expiry_date", git.expiry_date, ("2 days ago", now)) for now in NOWS),
@@ -152,7 +181,7 @@ def main() -> None:
             number += 1
         assert isinstance(call, Filled) or not keeps(call, arguments, NO_REQUEST), f"{call} keeps memory"
         requests[name] = requests.get(name, 0) + number - 1
-    assert len(requests) == 29 and all(requests[name] > 0 for name in requests if name not in ("mode_named", "age_of")), requests
+    assert len(requests) == 36 and all(requests[name] > 0 for name in requests if name not in ("mode_named", "age_of")), requests
     print(f"each of {sum(requests.values())} requests for memory is refused: MemoryError, and none is kept")
 
 

@@ -8,10 +8,11 @@ from __future__ import annotations
 import random
 import subprocess
 import sys
-from typing import Callable, List, Optional
+from dataclasses import astuple
+from typing import Callable, Iterator, List, Optional
 
 import gix_date
-from gix_date import GixDateError, Moment, RawOffsets, Signature, Time, WithoutOffset, git
+from gix_date import GitTime, GixDateError, Moment, RawOffsets, Signature, Time, WithoutOffset, git
 
 import rows
 from rows import Text
@@ -88,11 +89,36 @@ def signature(text: Text) -> str:
         cut = Signature.from_line(text)
     except GixDateError as error:
         return f"{error.status} 0"
-    return f"0 {sum(len(part.encode()) for part in (cut.name, cut.mail, cut.time))}"
+    return f"0 {sum(len(part.encode()) for part in (cut.name, cut.email, cut.time))}"
+
+
+def ident(text: Text) -> str:
+    try:
+        found = gix_date.parse_ident(text)
+    except GixDateError as error:
+        return f" {error.status}"
+    places = [rows.in_bytes(text, place) for place in astuple(found.places)]
+    shown = found.date.shown if found.date else GitTime(0, 0)
+    numbers = (*places, *astuple(shown), found.date is not None, found.comes_back)
+    return " 0 " + " ".join(str(int(number)) for number in numbers)
+
+
+def idents(given: List[bytes]) -> Iterator[str]:
+    """What a call for all texts tells of each as an identity line."""
+    columns, _ = rows.columns_of(b"".join(text + b"\n" for text in given))
+    for seconds, offset, status, _, start, _, email, email_end, begin, end in zip(*columns.values()):
+        places = f"{email - start} {email_end + 1 - start} {begin - start}"
+        yield str(status) if status else f"0 {places} {seconds} {offset} {int(end > begin)}"
+
+
+def due_of(line: str) -> str:
+    """The same, of what the program answers to a text: the status of `ident` and its numbers, but for some."""
+    status, *numbers = line.rsplit("|", 1)[1].split()[2:]
+    return " ".join([status, *(numbers[at] for at in (0, 1, 2, 5, 6, 8))]) if numbers else status
 
 
 WITHOUT_PLACE = (header, date)
-CALLS = (header, date, careful, exact, approximate, signature)
+CALLS = (header, date, careful, exact, approximate, signature, ident)
 
 
 def main() -> None:
@@ -106,6 +132,9 @@ def main() -> None:
             answer = "".join(told(call, one) for call in CALLS)
             if answer != line:
                 sys.exit(f"{one!r}: C answers {line}, and Python {answer}")
+    for text, told_at_once, line in zip(given, idents(given), due, strict=True):
+        if told_at_once != due_of(line):
+            sys.exit(f"{text!r}: C answers {line}, and Python {told_at_once} among many lines")
     read = sum("|0 " in line for line in due)
     assert count // 10 < read < count, f"{read} of {count} texts are dates"
     print(f"{count} random texts have the answers of the library through C; {read} of them are dates")

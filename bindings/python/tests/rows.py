@@ -5,7 +5,7 @@ from __future__ import annotations
 import re
 import sys
 from pathlib import Path
-from typing import Callable, Dict, Iterable, Iterator, List, Mapping, Optional, Tuple, TypeVar, Union
+from typing import IO, Callable, Dict, Iterable, Iterator, List, Mapping, NamedTuple, Optional, Tuple, TypeVar, Union
 
 import gix_date
 from gix_date import Format, GixDateError, Moment, RawOffsets, Signature, Texts, Time, WithoutOffset, git
@@ -212,7 +212,7 @@ def cut_signature(line: bytes) -> str:
         cut = Signature.from_line(given)
         if str(cut).encode() != line:
             return "!DisplayDiffers"
-        return f"{cut.name}<{cut.mail}>{cut.time}"
+        return f"{cut.name}<{cut.email}>{cut.time}"
 
     return agreeing(told(lambda: parts(given)) for given in both(line))
 
@@ -222,9 +222,9 @@ def signature_time(line: bytes) -> str:
     return agreeing(answers + in_lines(gix_date.parse_signatures_into, line))
 
 
-def write_signature(name: bytes, mail: bytes, seconds: bytes, offset: bytes) -> str:
+def write_signature(name: bytes, email: bytes, seconds: bytes, offset: bytes) -> str:
     time = time_of(seconds, offset)
-    return agreeing(told(lambda: gix_date.write_signature(a, b, time)) for a in both(name) for b in both(mail))
+    return agreeing(told(lambda: gix_date.write_signature(a, b, time)) for a in both(name) for b in both(email))
 
 
 def readable(text: bytes) -> str:
@@ -232,36 +232,108 @@ def readable(text: bytes) -> str:
     return text.decode(errors="surrogateescape")
 
 
-def parts(line: bytes, shown: Callable[[gix_date.Ident], bytes]) -> str:
-    return agreeing(told(lambda: readable(shown(gix_date.parse_ident(given)))) for given in both(line))
+class Parts(NamedTuple):
+    """What a call for many lines tells of one."""
+
+    name: bytes
+    email: bytes
+    date: Optional[gix_date.IdentDate]
+
+
+Found = Union[gix_date.Ident, Parts]
+COLUMNS = (
+    "seconds", "offsets", "statuses", "messages", "starts", "name_ends", "email_starts", "email_ends", "date_starts", "date_ends"
+)  # fmt: skip
+
+
+def columns_of(source: Union[bytes, IO[bytes]]) -> Tuple[Dict[str, List[int]], gix_date.Refused]:
+    """All that a call for many lines tells."""
+    columns: Dict[str, List[int]] = {name: [] for name in COLUMNS}
+    return columns, gix_date.parse_idents_into(source, **columns)
+
+
+def idents_of(block: bytes, columns: Dict[str, List[int]], refused: gix_date.Refused) -> Iterator[Union[Parts, GixDateError]]:
+    """What is told of each line of a block. Of one that is refused it has to be its status, its message and its start alone."""
+    for at, (seconds, offset, status, _, start, *places) in enumerate(zip(*columns.values())):
+        name_end, email_start, email_end, date_start, date_end = places
+        if at in refused:
+            assert [seconds, offset, *places, status] == [0] * 7 + [gix_date.NoIdentity.status]
+            assert refused[at].text == block[start:].split(b"\n")[0]
+            yield refused[at]
+            continue
+        date = re.fullmatch(rb"([0-9]+)\s*([-+][0-9]+)", block[date_start:date_end])
+        assert status == 0 and (date or [seconds, offset] == [0, 0] and date_start == date_end)
+        shown = gix_date.IdentDate(date[1], date[2], gix_date.GitTime(seconds, offset)) if date else None
+        yield Parts(block[start:name_end], block[email_start:email_end], shown)
+
+
+def message_of(number: int) -> str:
+    """What `git fsck` says, by its number among many lines."""
+    return list(gix_date.FsckId)[number - 1].value if number else "none"
+
+
+def by_each(line: bytes, shown: Callable[[Found], str]) -> str:
+    """What is shown of a line by a call for it, and by one for a block of three lines if it can be one."""
+    answers = [told(lambda: shown(gix_date.parse_ident(given))) for given in both(line)]
+
+    def in_block() -> str:
+        block = line.join([b"A <a> 5 +0100\n", b"\nB"])
+        _, found, _ = idents_of(block, *columns_of(block))
+        if isinstance(found, GixDateError):
+            raise found
+        return shown(found)
+
+    return agreeing(answers if b"\n" in line else [*answers, told(in_block)])
 
 
 def ident(line: bytes) -> str:
-    return parts(line, lambda found: b"%s<%s>%s" % (found.name, found.mail, found.date.seconds if found.date else b""))
+    return by_each(line, shown_ident)
+
+
+def shown_ident(found: Found) -> str:
+    return readable(b"%s<%s>%s" % (found.name, found.email, found.date.seconds if found.date else b""))
 
 
 def ident_label(line: bytes) -> str:
-    return parts(line, lambda found: b"%s <%s>" % (found.name, found.mail))
+    return by_each(line, shown_label)
 
 
-def date_of(line: bytes, shown: Callable[[gix_date.IdentDate], str]) -> str:
-    def date() -> str:
-        found = gix_date.parse_ident(line).date
-        return shown(found) if found else "!NoDate"
+def shown_label(found: Found) -> str:
+    return readable(b"%s <%s>" % (found.name, found.email))
 
-    return told(date)
+
+def ident_again(line: bytes) -> str:
+    def again(given: Text) -> str:
+        found = gix_date.parse_ident(given)
+        if found.date is None or not found.comes_back:
+            return "!NotBack"
+        return readable(gix_date.write_ident_as_is(found.name, found.email, found.date.shown))
+
+    return agreeing(told(lambda: again(given)) for given in both(line))
 
 
 def ident_offset(line: bytes) -> str:
-    return date_of(line, lambda date: date.offset.decode())
+    return by_each(line, shown_offset)
+
+
+def shown_offset(found: Found) -> str:
+    return found.date.offset.decode() if found.date else "!NoDate"
 
 
 def git_time(line: bytes) -> str:
-    return date_of(line, lambda date: f"{date.shown.seconds} {date.shown.offset:+05}")
+    return by_each(line, shown_git_time_of)
+
+
+def shown_git_time_of(found: Found) -> str:
+    return f"{found.date.shown.seconds} {found.date.shown.offset:+05}" if found.date else "!NoDate"
 
 
 def ident_time(line: bytes) -> str:
-    return date_of(line, lambda date: of_time(date.shown.to_time()))
+    return by_each(line, shown_time)
+
+
+def shown_time(found: Found) -> str:
+    return of_time(found.date.shown.to_time()) if found.date else "!NoDate"
 
 
 def fsck_of(line: bytes) -> str:
@@ -272,21 +344,50 @@ def fsck_of(line: bytes) -> str:
         assert in_bytes(given, fault.place) <= len(line)
         return str(fault.id.value)
 
-    return agreeing(told(lambda: message(given)) for given in both(line))
+    def in_block() -> str:
+        columns, _ = columns_of(line.join([b"A <a> 5 +0100\n", b"\nB"]))
+        return message_of(columns["messages"][1])
+
+    answers = [told(lambda: message(given)) for given in both(line)]
+    return agreeing(answers if b"\n" in line else [*answers, told(in_block)])
 
 
-def write_ident(name: bytes, mail: bytes, seconds: bytes, offset: bytes) -> str:
+def write_ident(name: bytes, email: bytes, seconds: bytes, offset: bytes) -> str:
     time = time_of(seconds, offset)
-    return agreeing(told(lambda: readable(gix_date.write_ident(a, b, time))) for a in both(name) for b in both(mail))
+    return agreeing(told(lambda: readable(gix_date.write_ident(a, b, time))) for a in both(name) for b in both(email))
 
 
 def place(text: Text, ignored: Optional[int]) -> str:
     return "none" if ignored is None else str(in_bytes(text, ignored))
 
 
+def by_lines(
+    alone: str,
+    lines: Callable[[bytes, Moment], Iterator[Union[Time, GixDateError]]],
+    into: Callable[[Tuple[List[int], List[int]], bytes, Moment], gix_date.Refused],
+    text: bytes,
+    now: Moment,
+) -> str:
+    """What is read of a text alone, if calls for many lines read it alike in a line of three. These tell no place."""
+    if b"\n" in text:
+        return alone
+    block = text.join([b"\n", b"\n5"])
+    outputs: Tuple[List[int], List[int]] = ([], [])
+    _, line, _ = lines(block, now)
+    refused = into(outputs, block, now).get(1)
+    if isinstance(line, GixDateError):
+        assert (line.text, line.place, repr(refused)) == (text, None, repr(line))
+        answer, due = f"!{type(line).__name__}", alone.split(" ")[0]
+    else:
+        answer, due = of_time(line), alone.replace(" ?", "")
+    left = f"{outputs[0][1]} {outputs[1][1]}"
+    return alone if answer == due and left == ("0 0" if refused else answer) else "!CallsDiffer"
+
+
 def parse_date(at: bytes, text: bytes) -> str:
     now = needed(at)
-    return agreeing(told(lambda: of_time(git.parse_date(given, now).time), given) for given in both(text))
+    alone = agreeing(told(lambda: of_time(git.parse_date(given, now).time), given) for given in both(text))
+    return by_lines(alone, git.parse_date_lines, git.parse_date_lines_into, text, now)
 
 
 def ignored(at: bytes, text: bytes) -> str:
@@ -305,18 +406,8 @@ def of_approximate(date: git.Approximate) -> str:
 
 def approxidate(at: bytes, text: bytes) -> str:
     now = needed(at)
-    alike = agreeing(told(lambda: of_approximate(git.approxidate(given, now)), given) for given in both(text))
-    return alike if b"\n" in text or approximate_line(text, now) in (alike, alike.replace(" ?", "")) else "!CallsDiffer"
-
-
-def approximate_line(text: bytes, now: Moment) -> str:
-    """The same of a line of three, whose refusal has its place by the call for one text."""
-    _, line, _ = git.approxidate_lines(text.join([b"\n", b"\n5"]), now)
-    if not isinstance(line, GixDateError):
-        return of_time(line)
-    assert line.text == text and line.place is None
-    again = told(lambda: git.approxidate(text, now), text)
-    return again if again.split(" ")[0] == f"!{type(line).__name__}" else "!LineDiffers"
+    alone = agreeing(told(lambda: of_approximate(git.approxidate(given, now)), given) for given in both(text))
+    return by_lines(alone, git.approxidate_lines, git.approxidate_lines_into, text, now)
 
 
 def approximate_ignored(at: bytes, text: bytes) -> str:
@@ -408,6 +499,7 @@ CALLS: Dict[str, Callable[..., str]] = {
     "write_signature": write_signature,
     "ident": ident,
     "ident_label": ident_label,
+    "ident_again": ident_again,
     "ident_offset": ident_offset,
     "git_time": git_time,
     "ident_time": ident_time,

@@ -16,33 +16,42 @@ import pytest
 
 import gix_date
 from gix_date import Format, GitTime, InvalidZone, Moment, RawOffsets, Signature, Texts, Time, WithoutOffset, _library, git
-from gix_date import is_canonical_header, parse, parse_carefully, parse_header, parse_lines, write_ident, write_signature
+from gix_date import is_canonical_header, parse, parse_carefully, parse_header, parse_lines
+from gix_date import write_ident, write_ident_as_is, write_signature
 
 NOW, TIME = Moment(1698400800, 0, 3600), Time(5, 0)
 MINUTES, ZONE, ALL = RawOffsets.WHOLE_MINUTES, WithoutOffset.MOMENTS_ZONE, Texts.ALL
+IDENTS = ("outputs", "begin", "so_far", "front", "data", "first", "end")
 CALLS: List[Tuple[Callable[..., object], Tuple[str, ...], Tuple[object, ...], int]] = [
     (parse_header, ("text",), ("5 +0100",), 1),
     (is_canonical_header, ("text",), ("5 +0100",), 1),
     (parse, ("text", "now", "raw_offsets"), ("1 +0007", NOW, MINUTES), 2),
     (parse_carefully, ("text", "now", "raw_offsets", "without_offset", "texts"), ("2 days ago", NOW, MINUTES, ZONE, ALL), 2),
-    (write_signature, ("name", "mail", "time"), ("A", "a", TIME), 3),
-    (write_ident, ("name", "mail", "time"), ("A", "a", TIME), 3),
+    (write_signature, ("name", "email", "time"), ("A", "a", TIME), 3),
+    (write_ident, ("name", "email", "time"), ("A", "a", TIME), 3),
+    (write_ident_as_is, ("name", "email", "time"), ("A", "a", GitTime(5, 60)), 3),
     (git.parse_date, ("text", "now"), ("2008-02-14 20:30", NOW), 2),
     (git.approxidate, ("text", "now"), ("noon", NOW), 2),
     (git.expiry_date, ("text", "now"), ("noon", NOW), 2),
     (git.show_date, ("time", "mode", "now"), (TIME, "raw", NOW), 3),
     (git.show_git_time, ("time", "mode", "now"), (GitTime(5, 60), "raw", NOW), 3),
     (_library.age_of, ("time", "now"), (TIME, NOW), 2),
+    (git.parse_offset, ("text",), ("-03:30",), 1),
+    (git.offset_text, ("offset",), (-12600,), 1),
+    (git.offset_from_decimal, ("decimal",), (-330,), 1),
+    (git.offset_to_decimal, ("offset",), (-12600,), 1),
     (TIME.format, ("format",), (Format.RAW,), 1),
     (TIME.format_or_unix, ("format",), (Format.RAW,), 1),
     (TIME.to_header, (), (), 0),
     (_library.cut_signature, ("line",), ("A <a> 5",), 1),
     (_library.cut_ident, ("line",), ("A <a> 5 +0100",), 1),
     (_library.ident_time, ("seconds", "offset"), (5, 60), 2),
+    (_library.git_time_text, ("time",), (GitTime(5, 60),), 1),
     (_library.fsck_number, ("line",), ("A <a> 05 +0100",), 1),
     (_library.parts_of, ("at",), (datetime(2023, 10, 27, tzinfo=timezone.utc),), 1),
     (_library.mode_named, ("name",), ("iso",), 1),
     (_library.times_of_lines, ("reader", "data", "begin", "end", "now", "raw_offsets"), (0, b"@5", 0, 2, NOW, MINUTES), 6),
+    (_library.add_idents, IDENTS, ((None,) * 10, 0, gix_date.Refused(), 0, b"", 0, 0), 7),
 ]
 needed = {parse: 1, parse_carefully: 1}
 
@@ -173,6 +182,10 @@ def test_times_and_modes_are_those_of_the_package() -> None:
     for other in [*others, TIME]:
         with pytest.raises(TypeError, match="^the time of a line has to be a GitTime, not "):
             git.show_git_time(other, "raw", NOW)
+        with pytest.raises(TypeError, match="^the time of a line has to be a GitTime, not "):
+            write_ident_as_is("A", "a", other)
+        with pytest.raises(TypeError, match="^the time of a line has to be a GitTime, not "):
+            _library.git_time_text(other)
     for other in [*others, GitTime(5, 60)]:
         with pytest.raises(TypeError, match="^a time has to be a Time, not "):
             git.show_date(other, "raw", NOW)
@@ -202,6 +215,8 @@ def test_times_and_modes_are_those_of_the_package() -> None:
             git.show_git_time(time, "raw", NOW)
     with pytest.raises(TypeError):
         git.show_git_time(GitTime("5", 60), "raw", NOW)  # type: ignore[arg-type]
+    with pytest.raises(ZeroDivisionError):
+        git.show_git_time(GitTime(5, 0, Neither()), "raw", NOW)  # type: ignore[arg-type]
     for text in (bytearray(b"A"), 5, None):
         calls: List[Callable[[], object]] = [
             lambda: write_signature(text, "a", TIME),  # type: ignore[arg-type]
@@ -211,6 +226,8 @@ def test_times_and_modes_are_those_of_the_package() -> None:
             lambda: gix_date.fsck(text),  # type: ignore[arg-type]
             lambda: write_ident(text, "a", TIME),  # type: ignore[arg-type]
             lambda: write_ident("A", text, TIME),  # type: ignore[arg-type]
+            lambda: write_ident_as_is(text, "a", GitTime(5, 60)),  # type: ignore[arg-type]
+            lambda: write_ident_as_is("A", text, GitTime(5, 60)),  # type: ignore[arg-type]
         ]
         for call in calls:
             with pytest.raises(TypeError, match="^a text has to be a str or bytes"):
@@ -228,7 +245,7 @@ def alone() -> ModuleType:
 
 
 CONNECTED: Dict[str, object] = {
-    "moment": Moment, "read_date": git.ReadDate, "approximate": git.Approximate, "date_mode": git.DateMode,
+    "moment": Moment, "read_date": git.ExactDate, "approximate": git.Approximate, "date_mode": git.DateMode,
     "git_time": GitTime, "expires": tuple(git.Expires), "raw_offsets": tuple(RawOffsets), "without_offset": tuple(WithoutOffset), "texts": tuple(Texts),
     "formats": tuple(Format), "kinds": tuple(git.DateKind), "refusals": git.ALL_REFUSALS, "no_directive": gix_date.NoDirective,
     "naive": gix_date.NaiveDatetime,
@@ -247,7 +264,9 @@ def test_an_extension_alone_calls_nothing() -> None:
         lambda: module.cut_signature("A <a> 5"),
         lambda: module.cut_ident("A <a> 5"),
         lambda: module.ident_time(5, 60),
+        lambda: module.git_time_text(GitTime(5, 60)),
         lambda: module.write_ident("A", "a", base),
+        lambda: module.write_ident_as_is("A", "a", GitTime(5, 60)),
         lambda: module.parts_of(datetime(2023, 10, 27)),
         lambda: module.write_signature("A", "a", base),
         lambda: module.parse_date("noon", NOW),
@@ -258,6 +277,7 @@ def test_an_extension_alone_calls_nothing() -> None:
         lambda: module.show_git_time(GitTime(5, 60), "iso", NOW),
         lambda: module.times_of_lines(0, b"@5", 0, 2, None, None),
         lambda: module.add_lines(([], []), 0, gix_date.Refused(), 0, b"@5", 0, 2, None, None),
+        lambda: module.add_idents((None,) * 10, 0, gix_date.Refused(), 0, b"A", 0, 1),
         lambda: module.zone_path(b"", b""),
         lambda: base.format(Format.RAW),
         lambda: base.to_header(),

@@ -34,6 +34,7 @@ from gix_date import (
     GixDateError,
     Ident,
     IdentDate,
+    IdentPlaces,
     InvalidInstant,
     InvalidTime,
     InvalidZone,
@@ -63,6 +64,7 @@ from gix_date import (
     parse_lines,
     parse_lines_into,
     write_ident,
+    write_ident_as_is,
     write_signature,
 )
 from gix_date.moments import tzif_of
@@ -375,18 +377,18 @@ def test_headers() -> None:
 def test_signatures() -> None:
     line = "A U Thor <author@example.com> 1660797906 +0800"
     parts = Signature.from_line(line)
-    assert (parts.name, parts.mail, parts.time) == ("A U Thor", "author@example.com", "1660797906 +0800")
+    assert (parts.name, parts.email, parts.time) == ("A U Thor", "author@example.com", "1660797906 +0800")
     assert Signature.from_line(line.encode()) == parts
-    assert str(parts) == write_signature(parts.name, parts.mail, parts.read_time()) == line
+    assert str(parts) == write_signature(parts.name, parts.email, parts.read_time()) == line
     with pytest.raises(InvalidTime):
         Signature("A", "a", "\x1c5 +0000").read_time()  # which Rust holds for no white space, and Python does
     with pytest.raises(NoSignature):
         Signature.from_line("A U Thor")
     with pytest.raises(NotText):
         Signature.from_line(b"Ren\xe9 <rene@example.com> 1660797906 +0800")
-    for name, mail, wide, kind in [("A\n", "a", 0, BadPart), (b"\xff", "a", 0, NotText), ("A", "a", 360000, OffsetTooWide)]:
+    for name, email, wide, kind in [("A\n", "a", 0, BadPart), (b"\xff", "a", 0, NotText), ("A", "a", 360000, OffsetTooWide)]:
         with pytest.raises(kind) as caught:
-            write_signature(name, mail, Time(0, wide))  # type: ignore[arg-type]
+            write_signature(name, email, Time(0, wide))  # type: ignore[arg-type]
         assert caught.value.text is None
     long = "é" * 1000
     assert write_signature(long, "a", Time(0, 0)) == f"{long} <a> 0 +0000"
@@ -394,9 +396,14 @@ def test_signatures() -> None:
 
 def test_identities() -> None:
     line = b"  J\xf6rg\t <j@e> <b>\t05+0530 x\nA <a> 5 +0000"
-    due = Ident(b"  J\xf6rg", b"j@e", IdentDate(b"05", b"+0530", GitTime(5, 530)))
-    assert parse_ident(line) == due and GitTime(5, 530).to_time() == Time(5, 19800)
-    assert parse_ident("J\u00f6rg <\udcff> 5") == Ident("J\u00f6rg".encode(), "\udcff".encode(errors="surrogatepass"), None)
+    date, places = IdentDate(b"05", b"+0530", GitTime(5, 530)), IdentPlaces(9, 13, 18, 20, 27)
+    assert parse_ident(line) == Ident(b"  J\xf6rg", b"j@e", b" <b>\t05+0530 x", date, False, places)
+    assert GitTime(5, 530).to_time() == Time(5, 19800)
+    text = "J\u00f6rg <\udcff> 5"
+    undated = text.encode(errors="surrogatepass")
+    due = Ident(undated[:5], undated[7:10], b" 5", None, False, IdentPlaces(6, 8, 9, 10, 10))
+    assert parse_ident(text) == due
+    assert parse_ident(undated) == dataclasses.replace(due, places=IdentPlaces(7, 11, 12, 13, 13))
     wide = parse_ident(b"A <a> 9223372036854775808 -0130").date
     assert wide == IdentDate(b"9223372036854775808", b"-0130", GitTime(0, 0))
     with pytest.raises(NoIdentity, match="^no identity: expected ") as refused:
@@ -407,6 +414,35 @@ def test_identities() -> None:
     for seconds, offset in ((1 << 63, 0), (0, 1 << 31)):
         with pytest.raises(OverflowError):
             GitTime(seconds, offset).to_time()
+
+
+def test_times_of_lines_have_texts() -> None:
+    times = [GitTime(5, 530), GitTime(5, -60), GitTime(0, 0), GitTime(0, 0, True), GitTime(5, 60, True), GitTime(5, 51800)]
+    assert [str(time) for time in times] == ["5 +0530", "5 -0060", "0 +0000", "0 -0000", "5 +0060", "5 +51800"]
+    assert str(GitTime(-(1 << 63), -(1 << 31))) == "-9223372036854775808 -2147483648"
+    for seconds, offset in ((1 << 63, 0), (0, 1 << 31)):
+        with pytest.raises(OverflowError):
+            str(GitTime(seconds, offset))
+
+
+def test_lines_come_back() -> None:
+    lines = [b"J\xf6rg <j@e> 5 -0000", b" <> 0 +0060", b"J\xf6rg <j@e> 5 +51800\n<"]
+    others = [b"A  <a@b> 5 +0000", b"A <a@b> 05 +0000", b"A <a@b> 5 +0000 ", b"A <a@b> 5 --700", b"A <a@b> 5"]
+    for line in lines + others:
+        ident = parse_ident(line)
+        assert ident.comes_back is (line in lines)
+        again = ident.date and write_ident_as_is(ident.name, ident.email, ident.date.shown)
+        assert (again == line[: ident.places.end]) is ident.comes_back
+
+
+def test_parts_are_written_as_they_are() -> None:
+    assert write_ident_as_is(b". J\xf6rg ", "\u00e9", GitTime(0, 0, True)) == b". J\xf6rg  <\xc3\xa9> 0 -0000"
+    assert write_ident_as_is("A" * 1000, "", GitTime(-5, 51800)) == b"A" * 1000 + b" <> -5 +51800"
+    cases: List[Tuple[Text, Text]] = [("A<", "a"), (b"A", b"a>"), ("A\n", b"a"), (b"A", "\0")]
+    for name, email in cases:
+        with pytest.raises(BadPart) as refused:
+            write_ident_as_is(name, email, GitTime(5, 60))
+        assert refused.value.text is None
 
 
 def test_messages_of_fsck() -> None:
@@ -431,15 +467,19 @@ def test_identities_are_cleaned() -> None:
         ("A", "a", before, BeforeEpoch),
         ("A", "a", wide, OffsetTooWide),
     ]
-    for name, mail, time, kind in cases:
+    for name, email, time, kind in cases:
         with pytest.raises(kind) as refused:
-            write_ident(name, mail, time)
+            write_ident(name, email, time)
         assert refused.value.text is None
 
 
 def test_answers_are_values() -> None:
     git, time = gix_date.git, Time(5, 0)
-    values = [Signature("A", "a", "5"), GitTime(5, 0), Ident(b"", b"", None), FsckFault(FsckId.BAD_DATE, 5), git.ReadDate(time, True, None), git.Approximate(time, True, 3), git.DateMode()]
+    ident = parse_ident("A <a> 5 +0000")
+    values = [
+        Signature("A", "a", "5"), GitTime(5, 0, True), ident, ident.places, FsckFault(FsckId.BAD_DATE, 5),
+        git.ExactDate(time, True, None), git.Approximate(time, True, 3), git.DateMode(),
+    ]  # fmt: skip
     for value in values:
         (first, *_) = dataclasses.fields(value)
         with pytest.raises(dataclasses.FrozenInstanceError):

@@ -9,14 +9,14 @@ from zoneinfo import ZoneInfo
 import pytest
 
 from gix_date import BeforeEpoch, GitTime, GixDateError, InvalidInstant, InvalidZone, Moment, NotText, OffsetTooWide, Time, git
-from gix_date.git import Age, AgeUnit, Approximate, DateKind, DateMode, Expires, ReadDate, UnknownMode
+from gix_date.git import Age, AgeUnit, Approximate, DateKind, DateMode, Expires, ExactDate, UnknownMode
 
 NOW = datetime(2009, 8, 30, 19, 20, tzinfo=timezone.utc)
 
 
 def test_exact_dates() -> None:
-    assert git.parse_date("2008-02-14 20:30:45 EST", NOW) == ReadDate(Time(1203039045, -18000), True, None)
-    assert git.parse_date("2008-02-14 20:30:45 IST", NOW) == ReadDate(Time(1203021045, 0), False, 20)
+    assert git.parse_date("2008-02-14 20:30:45 EST", NOW) == ExactDate(Time(1203039045, -18000), True, None)
+    assert git.parse_date("2008-02-14 20:30:45 IST", NOW) == ExactDate(Time(1203021045, 0), False, 20)
     with pytest.raises(git.Unreadable):
         git.parse_date("2008-02-14", NOW)
     with pytest.raises(git.YearRefused) as caught:
@@ -66,7 +66,7 @@ def test_a_nul_ends_a_text() -> None:
     text = "Thu, 14 Feb 2008 20:30:45 +0000\0 +0500"
     texts: List[Union[str, bytes]] = [text, text.encode()]
     for given in texts:
-        assert git.parse_date(given, NOW) == ReadDate(Time(1203021045, 0), True, 31)
+        assert git.parse_date(given, NOW) == ExactDate(Time(1203021045, 0), True, 31)
     assert git.approxidate("yesterday\0 noon", NOW) == Approximate(Time(1251573600, 0), True, 9)
     assert git.expiry_date("never\0x", NOW) is Expires.NEVER
 
@@ -88,6 +88,7 @@ def test_dates_of_lines_keep_their_offsets() -> None:
     assert git.show_git_time(time, DateMode(DateKind.ISO8601, True), NOW) == "2009-08-26 15:20:00 +0000"
     assert git.show_git_time(time, "iso-strict", NOW) == git.show_git_time(time, b"iso-strict", NOW) == "2009-08-26T16:20:00+00:60"
     assert git.show_git_time(GitTime(5, 51800), "default", NOW) == "Thu Jan 22 14:00:05 1970 +51800"
+    assert git.show_git_time(GitTime(5, 0, True), "raw", NOW) == "5 +0000"
     refusals: List[Tuple[GitTime, Type[GixDateError]]] = [
         (GitTime(0, -100), BeforeEpoch), (GitTime(0, 59652315), OffsetTooWide), (GitTime((1 << 63) - 1, 0), git.Range),
     ]  # fmt: skip
@@ -108,6 +109,21 @@ def test_ages() -> None:
     for time, now in [(Time(-1, 0), NOW), (Time(5, 0), Moment(-1))]:
         with pytest.raises(git.Range):
             git.age_at(time, now)
+
+
+def test_offsets() -> None:
+    for text, offset, decimal in [("+0000", 0, 0), ("-0130", -5400, -130), ("+0530", 19800, 530)]:
+        assert git.parse_offset(text) == git.parse_offset(text.encode()) == offset == git.offset_from_decimal(decimal)
+        assert git.offset_text(offset) == text and git.offset_to_decimal(offset) == decimal
+    assert git.parse_offset("-03:30") == -12600 and git.parse_offset("+02") == 7200
+    assert git.offset_text(-(1 << 31)) == "-59652314" and git.offset_from_decimal(-(1 << 31)) == 1 - (1 << 31)
+    for text in ("", "0200", "+2600", "+0260", "Z", "+02 "):
+        with pytest.raises(InvalidZone) as refused:
+            git.parse_offset(text)
+        assert refused.value.text == text
+    for call in (git.offset_text, git.offset_from_decimal, git.offset_to_decimal):
+        with pytest.raises(OverflowError):
+            call(1 << 31)
 
 
 def test_dates_by_formats() -> None:

@@ -3,13 +3,12 @@
 from __future__ import annotations
 
 import io
-import signal
 import threading
 import time
 from array import array
 from datetime import datetime
-from types import FrameType
-from typing import Callable, Iterator, List, Optional, Tuple
+from itertools import product
+from typing import Any, Callable, List, Tuple, Type
 from zoneinfo import ZoneInfo
 
 import pytest
@@ -18,6 +17,7 @@ from gix_date import GixDateError, InvalidInstant, InvalidTime, InvalidZone, Mom
 from gix_date import UnknownFormat, _library, git, parse_headers_into, parse_lines, parse_lines_into, parse_signatures_into
 from gix_date.moments import read_zone
 
+from failing import Breaking, Grudging, Heard, Meddling
 from rows import FOLDER
 
 LINES = b"@5\nbanana\n1 +0100\n\n2 hours ago"
@@ -87,7 +87,7 @@ def test_other_outputs_are_refused() -> None:
     one = [7]
     wrong: List[Tuple[object, object]] = [(one, one), ([], [7]), (array("q"), [7]), ([], memoryview(array("i")))]
     for outputs in wrong:
-        with pytest.raises(ValueError, match="^the outputs have to be two of one length"):
+        with pytest.raises(ValueError, match="^the outputs have to be different ones of one length"):
             parse_lines_into(outputs, LINES)
     for other in (b"12345678", 5, None, (), bytearray(8), memoryview(b"12345678").cast("q"), array("f")):
         with pytest.raises(TypeError):
@@ -114,36 +114,42 @@ def test_headers_and_signatures_of_many_lines() -> None:
             into(([], []), b"5", NOW)  # type: ignore[call-arg]
 
 
-def test_dates_of_people_of_many_lines() -> None:
-    lines = [b"2 weeks ago", b"200 years ago", b"5 mins ago", b"", b"noon\xff", b"99999999999 days"]
-    for zone in (3600, "EST5EDT,M3.2.0,M11.1.0", FILE, "Europe/Berlin"):
-        now = Moment(1700499600, 0, zone)
-        for source in (b"\n".join(lines), io.BytesIO(b"\n".join(lines) + b"\n")):
-            for line, answer in zip(lines, git.approxidate_lines(source, now)):
-                if isinstance(answer, GixDateError):
-                    with pytest.raises(type(answer)):
-                        git.approxidate(line, now)
-                    assert (answer.text, answer.place) == (line, None)
-                else:
-                    assert answer == git.approxidate(line, now).time
+GIT_LINES = [b"2 weeks ago", b"200 years ago", b"5 mins ago", b"", b"noon\xff", b"99999999999 days", b"2024-01-05 10:00", b"1900-02-03"]
+GIT_CALLS = [
+    (git.approxidate, git.approxidate_lines, git.approxidate_lines_into),
+    (git.parse_date, git.parse_date_lines, git.parse_date_lines_into),
+]
+
+
+@pytest.mark.parametrize("zone", [3600, "EST5EDT,M3.2.0,M11.1.0", FILE, "Europe/Berlin"])
+@pytest.mark.parametrize("source", [lambda: b"\n".join(GIT_LINES), lambda: io.BytesIO(b"\n".join(GIT_LINES) + b"\n")])
+@pytest.mark.parametrize("one, each, into", GIT_CALLS)
+def test_git_dates_of_many_lines(one: Any, each: Any, into: Any, source: Any, zone: Any) -> None:
+    now, outputs = Moment(1700499600, 0, zone), arrays()
+    answers, refused = list(each(source(), now)), into(outputs, source(), now)
+    assert refused.lines == len(answers) == len(GIT_LINES) and [len(output) for output in outputs] == [9, 9]
+    for at, (line, answer) in enumerate(zip(GIT_LINES, answers), 1):
+        put = Time(outputs[0][at], outputs[1][at])
+        if isinstance(answer, GixDateError):
+            with pytest.raises(type(answer)):
+                one(line, now)
+            assert (answer.text, answer.place, put) == (line, None, Time(0, 0)) and repr(refused[at]) == repr(answer)
+        else:
+            assert answer == one(line, now).time == put and at not in refused
+
+
+def test_git_dates_of_many_lines_have_a_moment() -> None:
     at = datetime(2023, 11, 20, 12, tzinfo=ZoneInfo("America/New_York"))
     assert [str(time) for time in git.approxidate_lines(b"1 month ago\nnow", at)] == ["1697821200 -0400", "1700499600 -0500"]
-    wrong = [(TypeError, None), (TypeError, 5), (InvalidInstant, Moment(2**62)), (InvalidZone, Moment(0, 0, "Mars"))]
-    for kind, moment in wrong:
+    assert [str(time) for time in git.parse_date_lines(b"2023-10-20 12:00\n@5 +0100", at)] == ["1697817600 -0400", "5 +0100"]
+    wrong: List[Tuple[Type[Exception], Any]] = [
+        (TypeError, None), (TypeError, 5), (InvalidInstant, Moment(2**62)), (InvalidZone, Moment(0, 0, "Mars"))
+    ]  # fmt: skip
+    for (kind, moment), (_, each, into) in product(wrong, GIT_CALLS):
         with pytest.raises(kind):
-            git.approxidate_lines(b"noon", moment)  # type: ignore[arg-type]
-
-
-class Breaking(io.RawIOBase):
-    """A file that breaks after some lines, in the middle of one."""
-
-    def __init__(self, data: bytes, error: BaseException) -> None:
-        self.left, self.error = [data], error
-
-    def read(self, size: int = -1) -> bytes:
-        if not self.left:
-            raise self.error
-        return self.left.pop()
+            each(b"noon", moment)
+        with pytest.raises(kind):
+            into(([], []), b"noon", moment)
 
 
 @pytest.mark.parametrize("error", [OSError("broken"), KeyboardInterrupt(), ZeroDivisionError()])
@@ -181,14 +187,6 @@ def test_outputs_in_use_stay_of_one_length() -> None:
         assert [list(output) for output in outputs] == [[7], [7]] and caught.value.lines == 0  # type: ignore[attr-defined]
 
 
-class Grudging(array):  # type: ignore[type-arg]
-    """An array that takes all and then fails."""
-
-    def frombytes(self, data: bytes) -> None:  # type: ignore[override]
-        super().frombytes(data)
-        raise ZeroDivisionError
-
-
 def test_outputs_that_fail_stay_of_one_length() -> None:
     for outputs in [(Grudging("q", [7]), array("i", [7])), (array("q", [7]), Grudging("i", [7])), ([7], Grudging("i", [7]))]:
         with pytest.raises(ZeroDivisionError) as caught:
@@ -196,42 +194,13 @@ def test_outputs_that_fail_stay_of_one_length() -> None:
         assert [list(output) for output in outputs] == [[7], [7]] and caught.value.lines == 0  # type: ignore[attr-defined]
 
 
-class Meddling:
-    """A file that changes an output while it is read."""
-
-    def __init__(self, output: List[int]) -> None:
-        self.output, self.left = output, [b"@2\n", b"@1\n"]
-
-    def read(self, size: int) -> bytes:
-        if len(self.left) == 1:
-            self.output.append(9)
-        return self.left.pop() if self.left else b""
-
-
 def test_outputs_that_change_meanwhile_are_refused() -> None:
     for changed in (0, 1):
         outputs: Tuple[List[int], List[int]] = ([7], [7])
         with pytest.raises(ValueError, match="has changed its length") as caught:
-            parse_lines_into(outputs, Meddling(outputs[changed]))  # type: ignore[arg-type]
+            parse_lines_into(outputs, Meddling(outputs[changed], [b"@1\n", b"@2\n"]))  # type: ignore[arg-type]
         assert outputs[changed] == [7, [1, 0][changed], 9] and outputs[1 - changed] == [7, [1, 0][1 - changed]]
         assert caught.value.lines == 1  # type: ignore[attr-defined]
-
-
-class Heard(Exception):
-    """A signal was heard."""
-
-
-@pytest.fixture
-def alarms() -> Iterator[Callable[[float], None]]:
-    """Sends signals, of which each raises Heard, after some seconds and on; 0 ends them."""
-
-    def hear(number: int, frame: Optional[FrameType]) -> None:
-        raise Heard
-
-    before = signal.signal(signal.SIGALRM, hear)
-    yield lambda after: signal.setitimer(signal.ITIMER_REAL, after) and None
-    signal.setitimer(signal.ITIMER_REAL, 0)
-    signal.signal(signal.SIGALRM, before)
 
 
 def test_outputs_are_of_one_length_when_a_signal_raises(alarms: Callable[[float], None]) -> None:
@@ -321,11 +290,12 @@ def test_parts_of_lines_are_those_between_two_indices() -> None:
     for begin, end in [(-1, 3), (3, 2), (0, 9), (9, 9)]:
         with pytest.raises(IndexError):
             _library.times_of_lines(0, data, begin, end, None, None)
-    for reader in (-1, 5):
+    for reader in (-1, 6):
         with pytest.raises(ValueError, match="no such reader"):
             _library.times_of_lines(reader, data, 0, 8, None, None)
     wrong: List[Callable[[], object]] = [
         lambda: _library.times_of_lines(4, data, 0, 8, None, None),
+        lambda: _library.times_of_lines(5, data, 0, 8, None, None),
         lambda: _library.times_of_lines("0", data, 0, 8, None, None),  # type: ignore[arg-type]
         lambda: _library.times_of_lines(0, "@1", 0, 2, None, None),  # type: ignore[arg-type]
         lambda: _library.add_lines(([], []), 0, {}, 0, data, 0, 8, None, None),  # type: ignore[arg-type]

@@ -16,7 +16,8 @@ import pytest
 
 from gix_date import ISO8601, Moment, RawOffsets, Refused, Signature, Texts, Time, UnknownFormat, _library, git, now
 from gix_date import is_canonical_header, parse, parse_carefully, parse_header, parse_headers_into, parse_lines, parse_lines_into
-from gix_date import GitTime, fsck, parse_ident, parse_signatures_into, write_ident, write_signature
+from gix_date import GitTime, fsck, parse_ident, parse_idents_into, parse_signatures_into
+from gix_date import write_ident, write_ident_as_is, write_signature
 from gix_date.moments import read_zone, tzif_of
 
 from rows import FOLDER, file_of_utc
@@ -36,6 +37,7 @@ def after_lines() -> Refused:
 
 
 QS, IS = array("q", [0] * 3), array("i", [0] * 3)
+NO_OUTPUT = (None,) * 9
 MODE = git.DateMode(git.DateKind.ISO8601, True)
 TIME, NOW = Time(1660797906, 28800), Moment(1698400800, 0, 7200)
 IN_RULE = Moment(1698400800, 0, "EST5EDT,M3.2.0,M11.1.0")
@@ -73,6 +75,7 @@ CALLS: List[Callable[[], object]] = [
     lambda: parse_carefully("2 days ago", IN_NAMED),
     lambda: git.parse_date("2005-04-07 22:13:13", IN_NAMED),
     lambda: list(git.approxidate_lines(b"noon\n200 years ago", IN_NAMED)),
+    lambda: git.parse_date_lines_into(([], []), b"2005-04-07 22:13:13\nno", IN_RULE),
     lambda: parse_headers_into(([], []), b"5 +0100\nno"),
     lambda: parse_signatures_into(([], []), b"A <a> 5 +0100\nno"),
     lambda: parse_carefully("30 min ago", NOW),
@@ -100,6 +103,11 @@ CALLS: List[Callable[[], object]] = [
     lambda: parse_lines_into((memoryview(QS), memoryview(IS)), b"@5\nbanana\n@1660797906"),
     lambda: parse_lines_into((memoryview(QS), memoryview(IS)), b"@5\nbanana\n@1660797906\n@1"),
     lambda: parse_lines_into(([], IS), b"@5"),
+    lambda: parse_idents_into(b"A <a> 5 +0100\nno", seconds=array("q"), messages=[], email_starts=[]),
+    lambda: parse_idents_into(b"A <a> 1660797906 +0100\nno", starts=memoryview(QS), offsets=memoryview(IS)),
+    lambda: parse_idents_into(b"A <a>\nno\n" * 2, date_ends=memoryview(QS), statuses=memoryview(IS)),
+    lambda: parse_idents_into(b"A <a>", seconds=[], offsets=IS),
+    lambda: _library.add_idents((*NO_OUTPUT, []), -1000, after_lines(), Index(), b"A <a>", 0, 5),  # type: ignore[arg-type]
     lambda: _library.add_lines(([], []), -1000, after_lines(), 0, b"@5", 0, 2, None, None),
     lambda: str(TIME),
     lambda: list(parse_lines(b"@5\nbanana\n2 days ago", IN_RULE)),
@@ -110,16 +118,28 @@ CALLS: List[Callable[[], object]] = [
     lambda: write_signature("\ud800", "a", TIME),
     lambda: write_signature("A", "\ud800", TIME),
     lambda: write_signature("A", "a", TEXT),  # type: ignore[arg-type]
-    lambda: parse_ident("A <a> 5 +0100").date,
+    lambda: parse_ident("A <a> 5 +0100"),
+    lambda: parse_ident("A" * 1000 + " <a> 5"),
     lambda: parse_ident(b"\xff"),
     lambda: fsck("\ud800 <a> 05 +0100"),
     lambda: fsck("A <a> 5 +0100"),
     lambda: GitTime(5, 60).to_time(),
     lambda: GitTime(5, 1 << 31).to_time(),
     lambda: GitTime(5, 59652315).to_time(),
+    lambda: str(GitTime(0, 0, True)),
+    lambda: str(GitTime(5, 1 << 31)),
     lambda: write_ident(b"A" * 200, "\ud800" * 200, TIME),
     lambda: write_ident("...", "a", TIME),
     lambda: write_ident("A", "a", TEXT),  # type: ignore[arg-type]
+    lambda: write_ident_as_is(b"A" * 200, "\ud800" * 200, GitTime(5, 51800)),
+    lambda: write_ident_as_is("A\n", "a", GitTime(5, 60)),
+    lambda: write_ident_as_is("A", "a", TEXT),  # type: ignore[arg-type]
+    lambda: git.parse_offset("-03:30"),
+    lambda: git.parse_offset("\ud800"),
+    lambda: git.offset_text(-12600),
+    lambda: git.offset_text(1 << 31),
+    lambda: git.offset_from_decimal(-330),
+    lambda: git.offset_to_decimal(TEXT),  # type: ignore[arg-type]
     lambda: git.parse_date("2005-04-07 22:13:13", IN_RULE),
     lambda: git.parse_date("1900-02-03 10:00", NOW),
     lambda: git.approxidate("5 mins ago", IN_FILE),

@@ -27,6 +27,19 @@ static void print_place(uint32_t status, size_t place, size_t ignored)
         printf("%zu|", told);
 }
 
+/* The places of an identity line's parts, the time that is shown, and whether there is one and the line comes back. */
+static void print_ident(const char *text, size_t len)
+{
+    gix_date_ident_parts ident;
+    const uint32_t status = gix_date_ident(text, len, &ident);
+    printf(" %" PRIu32, status);
+    if (status == GIX_DATE_OK)
+        printf(" %zu %zu %zu %zu %zu %" PRId64 " %" PRId32 " %d %d %d", ident.email.start, ident.rest.start, ident.seconds.start,
+               ident.offset.start, ident.rest.start + ident.rest.len, ident.shown.seconds, ident.shown.offset, ident.shown.minus_zero,
+               ident.has_date, ident.comes_back);
+    printf("\n");
+}
+
 static void answer(const char *text, size_t len)
 {
     static const gix_date_careful_options options = {GIX_DATE_WHOLE_MINUTES, GIX_DATE_MOMENTS_ZONE, GIX_DATE_CAREFUL};
@@ -50,7 +63,8 @@ static void answer(const char *text, size_t len)
     print_time(status, date.time);
     print_place(status, place, date.ignored);
     status = gix_date_cut_signature(text, len, &parts);
-    printf("%" PRIu32 " %zu\n", status, status ? 0 : parts.name.len + parts.mail.len + parts.time.len);
+    printf("%" PRIu32 " %zu", status, status ? 0 : parts.name.len + parts.email.len + parts.time.len);
+    print_ident(text, len);
 }
 
 int main(void)

@@ -1,7 +1,7 @@
 //! The calls that read texts, for bytes that may not be UTF-8. Git's dates are read of any bytes; other calls refuse such by
 //! [`Error::NotText`].
 
-use crate::git::{Approximate, DateError, Expiry, ReadDate};
+use crate::git::{Approximate, DateError, ExactDate, Expiry};
 use crate::{calls, CarefulError, CarefulOptions, Error, Moment, RawOffsets, Time};
 
 /// Reads the time of a commit header as [`parse_header()`](crate::parse_header) does. [`Error::NotText`],
@@ -45,7 +45,7 @@ pub fn parse_carefully(
 }
 
 /// Reads a date as [`git::parse_date()`](crate::git::parse_date) does, with its refusals.
-pub fn parse_date(input: &[u8], now: &Moment) -> Result<ReadDate, DateError> {
+pub fn parse_date(input: &[u8], now: &Moment) -> Result<ExactDate, DateError> {
     now.zone.read()?.parse_date(input, now.instant())
 }
 

@@ -12,6 +12,8 @@ use zone::HeldZone;
 const OK: u32 = 0;
 const NO_SUCH_OPTION: u32 = 2;
 const NO_ROOM: u32 = 3;
+/// The status of a line without an identity.
+pub(crate) const NO_IDENTITY: u32 = 27;
 const UNCLEAR: u32 = 17;
 const AFTER_YEAR_9999: u32 = 23;
 
@@ -201,22 +203,22 @@ pub(crate) fn cut_signature(line: &[u8]) -> Result<CSignature, Error> {
     stored(status, parts)
 }
 
-/// The room that is enough for the line of a name and a mail: two brackets and two spaces stand between the parts.
-fn line_room(name: &[u8], mail: &[u8]) -> usize {
-    let parts = name.len().saturating_add(mail.len());
+/// The room that is enough for the line of a name and an email: two brackets and two spaces stand between the parts.
+fn line_room(name: &[u8], email: &[u8]) -> usize {
+    let parts = name.len().saturating_add(email.len());
     parts.saturating_add(4 + MAX_HEADER)
 }
 
-pub(crate) fn write_signature(name: &str, mail: &str, time: &Time) -> Result<String, Error> {
-    let room = line_room(name.as_bytes(), mail.as_bytes());
-    // SAFETY: name and mail are valid for their lengths, the time is valid, and the buffer, of the length given, and the
+pub(crate) fn write_signature(name: &str, email: &str, time: &Time) -> Result<String, Error> {
+    let room = line_room(name.as_bytes(), email.as_bytes());
+    // SAFETY: name and email are valid for their lengths, the time is valid, and the buffer, of the length given, and the
     // length are places of their own.
     text_of(room, |out, len| unsafe {
         ffi::gix_date_write_signature(
             name.as_ptr(),
             name.len(),
-            mail.as_ptr(),
-            mail.len(),
+            email.as_ptr(),
+            email.len(),
             time,
             out.as_mut_ptr(),
             out.len(),
@@ -235,9 +237,31 @@ pub(crate) fn ident(line: &[u8]) -> Option<CIdentParts> {
 
 impl From<GitTime> for CGitTime {
     fn from(time: GitTime) -> CGitTime {
-        let GitTime { seconds, offset } = time;
-        CGitTime { seconds, offset }
+        let GitTime {
+            seconds,
+            offset,
+            minus_zero,
+        } = time;
+        CGitTime {
+            seconds,
+            offset,
+            minus_zero,
+        }
     }
+}
+
+/// The most bytes of the text of a line's time: the least seconds, a space, a sign and ten digits.
+const MAX_GIT_TIME: usize = 32;
+
+/// The text of a line's time in a buffer, which has room for each.
+pub(crate) fn git_time_text(time: GitTime, out: &mut [u8; MAX_GIT_TIME]) -> &str {
+    let mut len = 0;
+    // SAFETY: the time is valid, and the buffer, of the length given, and the length are places of their own.
+    let status = unsafe {
+        ffi::gix_date_git_time_text(&CGitTime::from(time), out.as_mut_ptr(), out.len(), &mut len)
+    };
+    debug_assert_eq!(status, OK);
+    std::str::from_utf8(&out[..len]).unwrap_or_default()
 }
 
 pub(crate) fn ident_time(shown: GitTime) -> Result<Time, Error> {
@@ -256,15 +280,35 @@ pub(crate) fn fsck(line: &[u8]) -> (u32, usize) {
     (message, place)
 }
 
-pub(crate) fn write_ident(name: &[u8], mail: &[u8], time: &Time) -> Result<Vec<u8>, Error> {
+pub(crate) fn write_ident(name: &[u8], email: &[u8], time: &Time) -> Result<Vec<u8>, Error> {
     let call = |out: &mut [u8], len: &mut usize| {
-        let (name_len, mail_len, out_len) = (name.len(), mail.len(), out.len());
-        let (name, mail, out) = (name.as_ptr(), mail.as_ptr(), out.as_mut_ptr());
-        // SAFETY: name and mail are valid for their lengths, the time is valid, and the buffer, of the length given, and the
+        let (name_len, email_len, out_len) = (name.len(), email.len(), out.len());
+        let (name, email, out) = (name.as_ptr(), email.as_ptr(), out.as_mut_ptr());
+        // SAFETY: name and email are valid for their lengths, the time is valid, and the buffer, of the length given, and the
         // length are places of their own.
         unsafe {
-            ffi::gix_date_write_ident(name, name_len, mail, mail_len, time, out, out_len, len)
+            ffi::gix_date_write_ident(name, name_len, email, email_len, time, out, out_len, len)
         }
     };
-    bytes_or(line_room(name, mail), call, |status| stored(status, ()))
+    bytes_or(line_room(name, email), call, |status| stored(status, ()))
+}
+
+pub(crate) fn write_ident_as_is(
+    name: &[u8],
+    email: &[u8],
+    time: GitTime,
+) -> Result<Vec<u8>, Error> {
+    let time = CGitTime::from(time);
+    let call = |out: &mut [u8], len: &mut usize| {
+        let (name_len, email_len, out_len) = (name.len(), email.len(), out.len());
+        let (name, email, out) = (name.as_ptr(), email.as_ptr(), out.as_mut_ptr());
+        // SAFETY: name and email are valid for their lengths, the time is valid, and the buffer, of the length given, and the
+        // length are places of their own.
+        unsafe {
+            ffi::gix_date_write_ident_as_is(
+                name, name_len, email, email_len, &time, out, out_len, len,
+            )
+        }
+    };
+    bytes_or(line_room(name, email), call, |status| stored(status, ()))
 }

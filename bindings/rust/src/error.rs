@@ -32,9 +32,9 @@ pub enum Error {
     OutOfMemory,
     /// The line is no signature line.
     NoSignature,
-    /// The name or the mail holds `<`, `>`, a newline or NUL.
+    /// The name or the email holds `<`, `>`, a newline or NUL.
     BadPart,
-    /// The name or the mail of an identity line to write holds NUL.
+    /// The name or the email of an identity line to write holds NUL.
     NulInPart,
     /// The name has no bytes.
     EmptyName,
@@ -89,9 +89,9 @@ impl fmt::Display for Error {
             Error::OffsetTooWide => "an offset of 100 hours or more from UTC cannot be written",
             Error::Pattern => "the pattern cannot be printed",
             Error::OutOfMemory => "out of memory",
-            Error::NoSignature => "not a signature line: expected a name, <, a mail, > and a time",
-            Error::BadPart => "a name or a mail holds <, >, a newline or NUL",
-            Error::NulInPart => "a name or a mail holds NUL",
+            Error::NoSignature => "not a signature line: expected a name, <, an email, > and a time",
+            Error::BadPart => "a name or an email holds <, >, a newline or NUL",
+            Error::NulInPart => "a name or an email holds NUL",
             Error::EmptyName => "the name is empty",
             Error::OnlyCrud => "the name consists only of disallowed characters",
             Error::BeforeEpoch => "a time before 1970 cannot be written or shown",

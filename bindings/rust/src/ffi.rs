@@ -12,7 +12,7 @@ pub struct CCarefulOptions {
 }
 
 #[repr(C)]
-#[derive(Clone, Copy, Default)]
+#[derive(Clone, Copy, Debug, Default)]
 pub struct CSpan {
     pub start: usize,
     pub len: usize,
@@ -22,25 +22,29 @@ pub struct CSpan {
 #[derive(Clone, Copy, Default)]
 pub struct CSignature {
     pub name: CSpan,
-    pub mail: CSpan,
+    pub email: CSpan,
     pub time: CSpan,
 }
 
 #[repr(C)]
-#[derive(Clone, Copy, Default)]
+#[derive(Clone, Copy, Debug, Default)]
 pub struct CGitTime {
     pub seconds: i64,
     pub offset: i32,
+    pub minus_zero: bool,
 }
 
 #[repr(C)]
-#[derive(Clone, Copy, Default)]
+#[derive(Clone, Copy, Debug, Default)]
 pub struct CIdentParts {
     pub name: CSpan,
-    pub mail: CSpan,
+    pub email: CSpan,
+    pub rest: CSpan,
     pub seconds: CSpan,
     pub offset: CSpan,
     pub shown: CGitTime,
+    pub has_date: bool,
+    pub comes_back: bool,
 }
 
 /// A zone that the library may hold memory for.
@@ -203,8 +207,8 @@ extern "C" {
     pub fn gix_date_write_signature(
         name: *const u8,
         name_len: usize,
-        mail: *const u8,
-        mail_len: usize,
+        email: *const u8,
+        email_len: usize,
         time: *const Time,
         out: *mut u8,
         out_len: usize,
@@ -213,12 +217,43 @@ extern "C" {
     pub fn gix_date_ident(text: *const u8, text_len: usize, ident: *mut CIdentParts) -> u32;
     pub fn gix_date_ident_time(shown: *const CGitTime, time: *mut Time) -> u32;
     pub fn gix_date_fsck(text: *const u8, text_len: usize, place: *mut usize) -> u32;
+    pub fn gix_date_ident_lines(
+        block: *const u8,
+        block_len: usize,
+        parts: *mut CIdentParts,
+        parts_len: usize,
+        seconds: *mut i64,
+        seconds_len: usize,
+        offsets: *mut i32,
+        offsets_len: usize,
+        messages: *mut u32,
+        messages_len: usize,
+        statuses: *mut u32,
+        statuses_len: usize,
+        bytes: *mut usize,
+    ) -> usize;
     pub fn gix_date_write_ident(
         name: *const u8,
         name_len: usize,
-        mail: *const u8,
-        mail_len: usize,
+        email: *const u8,
+        email_len: usize,
         time: *const Time,
+        out: *mut u8,
+        out_len: usize,
+        len: *mut usize,
+    ) -> u32;
+    pub fn gix_date_write_ident_as_is(
+        name: *const u8,
+        name_len: usize,
+        email: *const u8,
+        email_len: usize,
+        time: *const CGitTime,
+        out: *mut u8,
+        out_len: usize,
+        len: *mut usize,
+    ) -> u32;
+    pub fn gix_date_git_time_text(
+        time: *const CGitTime,
         out: *mut u8,
         out_len: usize,
         len: *mut usize,
@@ -305,17 +340,27 @@ mod tests {
             ("gix_date_span", layout!(CSpan { start, len })),
             (
                 "gix_date_signature",
-                layout!(CSignature { name, mail, time }),
+                layout!(CSignature { name, email, time }),
             ),
-            ("gix_date_git_time", layout!(CGitTime { seconds, offset })),
+            (
+                "gix_date_git_time",
+                layout!(CGitTime {
+                    seconds,
+                    offset,
+                    minus_zero
+                }),
+            ),
             (
                 "gix_date_ident_parts",
                 layout!(CIdentParts {
                     name,
-                    mail,
+                    email,
+                    rest,
                     seconds,
                     offset,
-                    shown
+                    shown,
+                    has_date,
+                    comes_back
                 }),
             ),
             ("gix_date_zone", layout!(CZone { kind, offset, held })),

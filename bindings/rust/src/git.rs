@@ -6,6 +6,7 @@
 //! - [`show_date()`]: a date as `git log --date=MODE` shows it
 //! - [`show_git_time()`]: the same of an identity line's date, with the offset that the line writes
 //! - [`show_by_format()`]: a date as `git log --date=format:FORMAT` shows it
+//! - [`parse_offset()`], [`offset_text()`]: an offset alone, as `+0530`
 //!
 //! In every zone each answer is Git's, as it reads the first date of a process, or a refusal by name ([`DateError`]); but a zone that
 //! is a rule changes before 1970 too. `docs/GIT_DATES.md` has the rules. Seconds count from 1970-01-01 00:00:00 UTC, an offset is seconds
@@ -35,12 +36,14 @@ mod age;
 mod error;
 mod format;
 mod mode;
+mod offset;
 mod text;
 
-pub use age::{age_at, decimal_of_offset, offset_of_decimal, Age};
+pub use age::{age_at, Age};
 pub use error::{DateError, OwnDateError};
 pub use format::{DateFormat, FormatFault};
 pub use mode::{DateKind, DateMode, UnknownMode};
+pub use offset::{offset_from_decimal, offset_text, offset_to_decimal, parse_offset};
 pub use text::DateText;
 pub(crate) use text::MAX_SHOWN;
 
@@ -49,7 +52,7 @@ use crate::{bytes, Moment, Time};
 
 /// What [`parse_date()`] reads.
 #[derive(Clone, Copy, Debug, PartialEq, Eq, Hash)]
-pub struct ReadDate {
+pub struct ExactDate {
     /// The time. Its offset has whole minutes.
     pub time: Time,
     /// Whether the text names its offset, as `+0200`, `Z` or `EST`, so that each zone gives the same date. As in Git, `-0001` names
@@ -71,7 +74,7 @@ pub struct Approximate {
     /// Whether anything was understood, by Git's own count. If not, the time is the moment in whole seconds, if the
     /// zone's clock finds it again: an hour off where that shows it twice, and near it in the last days of 9999.
     pub understood: bool,
-    /// The place of the first word, number or sign of an offset that no rule used, as in [`ReadDate::ignored`].
+    /// The place of the first word, number or sign of an offset that no rule used, as in [`ExactDate::ignored`].
     pub ignored: Option<usize>,
 }
 
@@ -110,7 +113,7 @@ pub enum Expiry {
 ///
 /// [`DateError::Unreadable`], [`DateError::NumberTooLarge`], [`DateError::YearRefused`], [`DateError::Range`], and
 /// [`DateError::Refused`] of the moment.
-pub fn parse_date(input: &str, now: &Moment) -> Result<ReadDate, DateError> {
+pub fn parse_date(input: &str, now: &Moment) -> Result<ExactDate, DateError> {
     bytes::parse_date(input.as_bytes(), now)
 }
 

@@ -123,6 +123,8 @@ extern "C" {
         place: *mut usize,
     ) -> u32;
     pub fn git_date_age_at(time: *const Time, now: *const Instant, age: *mut CAge) -> u32;
-    pub fn git_date_offset_of_decimal(decimal: i32) -> i32;
-    pub fn git_date_decimal_of_offset(offset: i32) -> i32;
+    pub fn git_date_parse_offset(text: *const u8, text_len: usize, offset: *mut i32) -> u32;
+    pub fn git_date_offset_text(offset: i32, out: *mut u8, out_len: usize, len: *mut usize) -> u32;
+    pub fn git_date_offset_from_decimal(decimal: i32) -> i32;
+    pub fn git_date_offset_to_decimal(offset: i32) -> i32;
 }

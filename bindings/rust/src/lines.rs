@@ -25,6 +25,9 @@
 //!
 //! [`ReadZone`](crate::ReadZone) has the calls for lines at a moment.
 
+use crate::calls::NO_IDENTITY;
+use crate::ffi::CIdentParts;
+use crate::signature::{FsckId, IdentRef};
 use crate::{calls, CarefulOptions, Error, OffsetInSeconds, RawOffsets, SecondsSinceUnixEpoch};
 use std::fmt;
 
@@ -53,6 +56,46 @@ pub struct Columns<'a> {
     pub statuses: &'a mut [Status],
 }
 
+/// The arrays that identity lines go into, with a cell of each for a line. An empty array is left out.
+#[derive(Debug, Default)]
+pub struct IdentColumns<'a> {
+    /// The parts of each line that has an identity.
+    pub parts: &'a mut [IdentParts],
+    /// The seconds that Git shows of each line with a date.
+    pub seconds: &'a mut [SecondsSinceUnixEpoch],
+    /// Its offset as one decimal number, as [`GitTime`](crate::signature::GitTime) has it.
+    pub offsets: &'a mut [i32],
+    /// What `git fsck` says of each line.
+    pub messages: &'a mut [Message],
+    /// Whether each line has an identity, or [`LineError::NoIdentity`].
+    pub statuses: &'a mut [Status],
+}
+
+/// The parts of an identity line of a block.
+#[derive(Clone, Copy, Debug, Default)]
+#[repr(transparent)]
+pub struct IdentParts(CIdentParts);
+
+impl IdentParts {
+    /// What Git shows of the line, each part a slice of the block that was read. Its places count from the front of the block. `None` for a
+    /// block that is too short.
+    pub fn ident(self, block: &[u8]) -> Option<IdentRef<'_>> {
+        IdentRef::in_text(block, self.0)
+    }
+}
+
+/// What `git fsck` says of an identity line: nothing, by default, or a message.
+#[derive(Clone, Copy, Debug, Default, PartialEq, Eq, Hash)]
+#[repr(transparent)]
+pub struct Message(u32);
+
+impl Message {
+    /// The message's ID. `None` if `git fsck` says nothing.
+    pub fn id(self) -> Option<FsckId> {
+        FsckId::of_number(self.0)
+    }
+}
+
 /// How many lines a call has read, and how many bytes these have with their newlines.
 #[derive(Clone, Copy, Debug, Default, PartialEq, Eq, Hash)]
 pub struct Done {
@@ -79,6 +122,7 @@ impl Status {
             21 => LineError::YearRefused,
             22 => LineError::DateRange,
             23 => LineError::AfterYear9999,
+            NO_IDENTITY => LineError::NoIdentity,
             status => LineError::Refused(Error::of_status(status)),
         })
     }
@@ -105,6 +149,8 @@ pub enum LineError {
     YearRefused,
     /// [`DateError::Range`](crate::git::DateError::Range)
     DateRange,
+    /// The line has no identity, for which [`IdentRef::from_bytes()`] answers `None`.
+    NoIdentity,
 }
 
 impl fmt::Display for LineError {
@@ -122,6 +168,7 @@ impl fmt::Display for LineError {
             LineError::DateRange => {
                 "the date is before 1970 or leads to an instant that cannot be computed with"
             }
+            LineError::NoIdentity => "no identity: expected a name, <, an email and >",
         })
     }
 }
@@ -137,6 +184,32 @@ pub fn parse_lines(block: &[u8], reader: LineReader, columns: Columns<'_>) -> Do
 /// ([`is_canonical_header()`](crate::is_canonical_header)).
 pub fn check_lines(block: &[u8], canonical: &mut [bool]) -> Done {
     calls::lines::check_lines(block, canonical)
+}
+
+/// Tells of each identity line of a block what [`IdentRef::from_bytes()`] and [`fsck()`](crate::signature::fsck()) tell of it, in the arrays
+/// that are not empty. It reads as many lines as the shortest of these has cells for, and none where all are empty. Without a date seconds
+/// and offset stay as they were, and without an identity the parts too.
+///
+/// ```
+/// use gix_date_proved::lines::{ident_lines, IdentColumns, IdentParts, Message};
+/// use gix_date_proved::signature::FsckId;
+///
+/// let block = b"A <a@b> 5 +0100\nB  <b> 5 -0000 \n";
+/// let (mut parts, mut messages) = ([IdentParts::default(); 2], [Message::default(); 2]);
+/// let done = ident_lines(
+///     block,
+///     IdentColumns {
+///         parts: &mut parts,
+///         messages: &mut messages,
+///         ..IdentColumns::default()
+///     },
+/// );
+/// assert_eq!((done.lines, done.bytes), (2, block.len()));
+/// assert_eq!(parts[1].ident(block).unwrap().email, b"b");
+/// assert_eq!(messages.map(Message::id), [None, Some(FsckId::BadTimezone)]);
+/// ```
+pub fn ident_lines(block: &[u8], columns: IdentColumns<'_>) -> Done {
+    calls::lines::ident_lines(block, columns)
 }
 
 #[cfg(test)]
@@ -163,7 +236,7 @@ mod tests {
             assert_eq!(statuses.len(), count);
             for (name, number) in statuses {
                 // No line is refused by these.
-                let of_options = ["Ok", "NoSuchOption", "NoRoom", "NoIdentity"];
+                let of_options = ["Ok", "NoSuchOption", "NoRoom"];
                 let of_formats = ["FlagRefused", "UnknownDirective", "WidthTooLarge"];
                 if of_options.contains(&&*name) || of_formats.contains(&&*name) {
                     continue;

@@ -1,7 +1,7 @@
 //! Signature lines, and identity lines as Git itself shows, judges and writes them.
 //!
 //! [`Signature`] takes only lines that Git writes. Histories have others: [`IdentRef`] is what `git log` shows of any, and [`fsck()`]
-//! what `git fsck` says of it. [`write_ident()`] cleans a name and a mail as `git commit` does.
+//! what `git fsck` says of it. [`write_ident()`] cleans a name and an email as `git commit` does.
 //!
 //! ```
 //! use gix_date_proved::signature::{fsck, write_ident, FsckId, IdentRef};
@@ -9,7 +9,7 @@
 //!
 //! let line = b"J\xf6rg <j@e> <b> 5 +0060";
 //! let ident = IdentRef::from_bytes(line).unwrap();
-//! assert_eq!((ident.name, ident.mail), (&b"J\xf6rg"[..], &b"j@e"[..]));
+//! assert_eq!((ident.name, ident.email), (&b"J\xf6rg"[..], &b"j@e"[..]));
 //! let date = ident.date.unwrap();
 //! assert_eq!((date.shown.seconds, date.shown.offset), (5, 60));
 //! assert_eq!(date.shown.to_time(), Ok(Time::new(5, 3600)));
@@ -28,7 +28,7 @@ pub struct Signature<'a> {
     /// What stands before ` <`, which may be empty.
     pub name: &'a str,
     /// What stands between the brackets, which may be empty.
-    pub mail: &'a str,
+    pub email: &'a str,
     /// What stands after `> `, at least one byte.
     pub time: &'a str,
 }
@@ -40,7 +40,7 @@ impl<'a> Signature<'a> {
         let part = |span: CSpan| &line[span.start..span.start + span.len];
         Ok(Signature {
             name: part(parts.name),
-            mail: part(parts.mail),
+            email: part(parts.email),
             time: part(parts.time),
         })
     }
@@ -70,14 +70,14 @@ impl<'a> Signature<'a> {
 
 impl fmt::Display for Signature<'_> {
     fn fmt(&self, f: &mut fmt::Formatter<'_>) -> fmt::Result {
-        write!(f, "{} <{}> {}", self.name, self.mail, self.time)
+        write!(f, "{} <{}> {}", self.name, self.email, self.time)
     }
 }
 
-/// The signature line of a name, a mail and a time, without a newline. [`Error::BadPart`], [`Error::OffsetTooWide`],
+/// The signature line of a name, an email and a time, without a newline. [`Error::BadPart`], [`Error::OffsetTooWide`],
 /// [`Error::OutOfMemory`].
-pub fn write_signature(name: &str, mail: &str, time: Time) -> Result<String, Error> {
-    calls::write_signature(name, mail, &time)
+pub fn write_signature(name: &str, email: &str, time: Time) -> Result<String, Error> {
+    calls::write_signature(name, email, &time)
 }
 
 /// What Git shows of an identity line, each part a slice of it. It need not be UTF-8.
@@ -86,9 +86,30 @@ pub struct IdentRef<'a> {
     /// What stands before the first `<`, without the blanks at its end. It may be empty.
     pub name: &'a [u8],
     /// What stands between the first `<` and the next `>`, which may be empty.
-    pub mail: &'a [u8],
+    pub email: &'a [u8],
+    /// What follows the email and its `>`, to the line's end.
+    pub rest: &'a [u8],
     /// The date after the last `>`; `None` where Git shows none.
     pub date: Option<DateRef<'a>>,
+    /// [`write_ident_as_is()`] of this name, this email and the time that is shown writes the same line. `false` without a date.
+    pub comes_back: bool,
+    /// Where the parts stand.
+    pub places: IdentPlaces,
+}
+
+/// Where the parts of an identity line stand, in bytes from its front. The name stands at the front.
+#[derive(Clone, Copy, Debug, PartialEq, Eq, Hash)]
+pub struct IdentPlaces {
+    /// Where the email stands: after the first `<`.
+    pub email: usize,
+    /// Where the rest stands: after the email and its `>`.
+    pub rest: usize,
+    /// Where the seconds stand: after the last `>` and blanks. Without a date they would stand there.
+    pub seconds: usize,
+    /// Where the offset stands: after the digits of the seconds and blanks.
+    pub offset: usize,
+    /// Where the line ends: before its newline or NUL.
+    pub end: usize,
 }
 
 /// The date of an identity line.
@@ -109,9 +130,20 @@ pub struct GitTime {
     pub seconds: i64,
     /// The offset as one decimal number, hours before the last two digits, minutes in them: `+0530` is 530.
     pub offset: i32,
+    /// Whether a minus stands before an offset of 0, as in `-0000`. Beside another offset it means nothing.
+    pub minus_zero: bool,
 }
 
 impl GitTime {
+    /// A time of seconds and an offset's number, with a plus before 0.
+    pub const fn new(seconds: i64, offset: i32) -> GitTime {
+        GitTime {
+            seconds,
+            offset,
+            minus_zero: false,
+        }
+    }
+
     /// The time of these seconds, with the offset in seconds: `+0060` is an hour. [`Error::OffsetTooWide`] above 35791394 minutes.
     /// [`git::show_git_time()`](crate::git::show_git_time) shows the offset as the line writes it.
     pub fn to_time(self) -> Result<Time, Error> {
@@ -119,30 +151,56 @@ impl GitTime {
     }
 }
 
+/// The time as a line has it: the seconds, a space, and a sign with at least four digits.
+impl fmt::Display for GitTime {
+    fn fmt(&self, f: &mut fmt::Formatter<'_>) -> fmt::Result {
+        f.pad(calls::git_time_text(*self, &mut [0; 32]))
+    }
+}
+
 impl<'a> IdentRef<'a> {
     /// What Git shows of a line, which ends before its first newline or NUL. `None` where Git finds no identity: no `<`, or no `>`
     /// after the first.
     pub fn from_bytes(line: &'a [u8]) -> Option<IdentRef<'a>> {
+        IdentRef::in_text(line, calls::ident(line)?)
+    }
+
+    /// What Git shows of a line by its parts, which stand in this text.
+    pub(crate) fn in_text(text: &'a [u8], parts: CIdentParts) -> Option<IdentRef<'a>> {
         let CIdentParts {
             name,
-            mail,
+            email,
+            rest,
             seconds,
             offset,
             shown,
-        } = calls::ident(line)?;
-        let part = |span: CSpan| &line[span.start..span.start + span.len];
+            has_date,
+            comes_back,
+        } = parts;
+        let part = |span: CSpan| text.get(span.start..span.start + span.len);
+        let places = IdentPlaces {
+            email: email.start,
+            rest: rest.start,
+            seconds: seconds.start,
+            offset: offset.start,
+            end: rest.start + rest.len,
+        };
         let date = DateRef {
-            seconds: part(seconds),
-            offset: part(offset),
+            seconds: part(seconds)?,
+            offset: part(offset)?,
             shown: GitTime {
                 seconds: shown.seconds,
                 offset: shown.offset,
+                minus_zero: shown.minus_zero,
             },
         };
         Some(IdentRef {
-            name: part(name),
-            mail: part(mail),
-            date: (!date.seconds.is_empty()).then_some(date),
+            name: part(name)?,
+            email: part(email)?,
+            rest: part(rest)?,
+            date: has_date.then_some(date),
+            comes_back,
+            places,
         })
     }
 }
@@ -175,6 +233,11 @@ pub enum FsckId {
 }
 
 impl FsckId {
+    /// The message of a number, which is 0 for none.
+    pub(crate) fn of_number(number: u32) -> Option<FsckId> {
+        FsckId::ALL.get(number.checked_sub(1)? as usize).copied()
+    }
+
     /// All messages, in the order in which Git looks for them.
     pub const ALL: [FsckId; 11] = [
         FsckId::NulInHeader,
@@ -221,20 +284,22 @@ pub struct FsckFault {
 /// if it says nothing.
 pub fn fsck(line: &[u8]) -> Option<FsckFault> {
     let (message, place) = calls::fsck(line);
-    let index = message.checked_sub(1)?;
-    Some(FsckFault {
-        id: FsckId::ALL[index as usize],
-        place,
-    })
+    let id = FsckId::of_number(message)?;
+    Some(FsckFault { id, place })
 }
 
-/// The identity line that Git writes of a name, a mail and a time, without a newline. Name and mail are cleaned: without crud at both
+/// The identity line that Git writes of a name, an email and a time, without a newline. Name and email are cleaned: without crud at both
 /// ends, and then without `<`, `>` and newlines. Crud is a byte from 1 to 32, and each of `. , : ; < > " \ '`.
 ///
 /// [`Error::NulInPart`], [`Error::EmptyName`], [`Error::OnlyCrud`], [`Error::BeforeEpoch`], [`Error::OffsetTooWide`], in this order, and
 /// [`Error::OutOfMemory`].
-pub fn write_ident(name: &[u8], mail: &[u8], time: Time) -> Result<Vec<u8>, Error> {
-    calls::write_ident(name, mail, &time)
+pub fn write_ident(name: &[u8], email: &[u8], time: Time) -> Result<Vec<u8>, Error> {
+    calls::write_ident(name, email, &time)
+}
+
+/// The identity line of a name, an email and a time as they are, without a newline. [`Error::BadPart`], [`Error::OutOfMemory`].
+pub fn write_ident_as_is(name: &[u8], email: &[u8], time: GitTime) -> Result<Vec<u8>, Error> {
+    calls::write_ident_as_is(name, email, time)
 }
 
 #[cfg(test)]

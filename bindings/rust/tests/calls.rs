@@ -1,7 +1,9 @@
 //! Each call of this crate, its refusals, and sixteen threads at once. The rows of outside values are run by `rows.rs`.
 
 use gix_date_proved::parse::TimeBuf;
-use gix_date_proved::signature::{fsck, write_ident, FsckFault, FsckId, GitTime, IdentRef};
+use gix_date_proved::signature::{
+    fsck, write_ident, write_ident_as_is, FsckFault, FsckId, GitTime, IdentRef,
+};
 use gix_date_proved::time::{format, CustomFormat, Format};
 use gix_date_proved::{
     bytes, check_library, is_canonical_header, library_version, parse, parse_carefully,
@@ -237,13 +239,13 @@ fn signature_lines_are_cut_and_written() {
         signature,
         Signature {
             name: "A U Thor",
-            mail: "author@example.com",
+            email: "author@example.com",
             time: "1660797906 +0800"
         }
     );
     assert_eq!(signature.time(), Ok(DAY));
     assert_eq!(
-        write_signature(signature.name, signature.mail, DAY).as_deref(),
+        write_signature(signature.name, signature.email, DAY).as_deref(),
         Ok(line)
     );
     assert_eq!(Signature::from_line("A <a>"), Err(Error::NoSignature));
@@ -254,16 +256,34 @@ fn signature_lines_are_cut_and_written() {
 fn identity_lines_are_as_git_shows_and_writes_them() {
     let line = b"  J\xf6rg\t <j@e> <b>\t05+0530 x\nA <a> 5 +0000";
     let ident = IdentRef::from_bytes(line).unwrap();
-    assert_eq!((ident.name, ident.mail), (&b"  J\xf6rg"[..], &b"j@e"[..]));
+    assert_eq!((ident.name, ident.email), (&b"  J\xf6rg"[..], &b"j@e"[..]));
     let date = ident.date.unwrap();
     assert_eq!((date.seconds, date.offset), (&b"05"[..], &b"+0530"[..]));
     let (seconds, offset) = (5, 530);
-    assert_eq!(date.shown, GitTime { seconds, offset });
+    assert_eq!(date.shown, GitTime::new(seconds, offset));
     assert_eq!(date.shown.to_time(), time(5, 19800));
     let offset = -59652315;
-    let wide = GitTime { seconds, offset };
+    let wide = GitTime::new(seconds, offset);
     assert_eq!(wide.to_time(), Err(Error::OffsetTooWide));
-    assert_eq!(IdentRef::from_bytes(b"A <a> 5").unwrap().date, None);
+    assert_eq!(
+        (ident.rest, ident.comes_back),
+        (&b" <b>\t05+0530 x"[..], false)
+    );
+    let undated = IdentRef::from_bytes(b"A <a> 5").unwrap();
+    assert_eq!((undated.date, undated.rest), (None, &b" 5"[..]));
+    let at = undated.places;
+    assert_eq!(
+        (at.email, at.rest, at.seconds, at.offset, at.end),
+        (3, 5, 6, 7, 7)
+    );
+    let kept = b" <> 0 -0000";
+    let ident = IdentRef::from_bytes(kept).unwrap();
+    let shown = ident.date.unwrap().shown;
+    assert!(ident.comes_back && shown.minus_zero && shown.to_string() == "0 -0000");
+    let again = write_ident_as_is(ident.name, ident.email, shown);
+    assert_eq!(again.as_deref(), Ok(&kept[..]));
+    let refused = write_ident_as_is(b"A\0", b"", shown);
+    assert_eq!(refused, Err(Error::BadPart));
     assert_eq!(IdentRef::from_bytes(b"A a> 5 +0000"), None);
 
     let (id, place) = (FsckId::BadDate, 6);
@@ -274,14 +294,14 @@ fn identity_lines_are_as_git_shows_and_writes_them() {
     assert_eq!(line, Ok(b"J\xf6rg <j@e> 1660797906 +0800".to_vec()));
     let before = Time::new(-1, 360000);
     let wide = Time::new(0, 360000);
-    for (name, mail, time, error) in [
+    for (name, email, time, error) in [
         (&b""[..], &b"\0"[..], before, Error::NulInPart),
         (b"", b"a", before, Error::EmptyName),
         (b" .", b"a", before, Error::OnlyCrud),
         (b"A", b"a", before, Error::BeforeEpoch),
         (b"A", b"a", wide, Error::OffsetTooWide),
     ] {
-        assert_eq!(write_ident(name, mail, time), Err(error));
+        assert_eq!(write_ident(name, email, time), Err(error));
     }
 }
 

@@ -2,9 +2,10 @@
 //! `docs/GIT_DATES.md`; `rows.rs` runs the rows of outside values.
 
 use gix_date_proved::git::{
-    age_at, approxidate, decimal_of_offset, expiry_date, offset_of_decimal, parse_date,
-    show_by_format, show_date, show_git_time, Age, Approximate, DateError, DateFormat, DateKind,
-    DateMode, DateText, Expiry, FormatFault, OwnDateError, ReadDate, UnknownMode,
+    age_at, approxidate, expiry_date, offset_from_decimal, offset_text, offset_to_decimal,
+    parse_date, parse_offset, show_by_format, show_date, show_git_time, Age, Approximate,
+    DateError, DateFormat, DateKind, DateMode, DateText, ExactDate, Expiry, FormatFault,
+    OwnDateError, UnknownMode,
 };
 use gix_date_proved::signature::GitTime;
 use gix_date_proved::{bytes, Error, Instant, Moment, Time, Zone};
@@ -19,8 +20,8 @@ fn now() -> Moment {
 }
 
 /// A date that names its own offset.
-fn exact(seconds: i64, offset: i32, ignored: Option<usize>) -> Result<ReadDate, DateError> {
-    Ok(ReadDate {
+fn exact(seconds: i64, offset: i32, ignored: Option<usize>) -> Result<ExactDate, DateError> {
+    Ok(ExactDate {
         time: Time { seconds, offset },
         has_offset: true,
         ignored,
@@ -28,9 +29,9 @@ fn exact(seconds: i64, offset: i32, ignored: Option<usize>) -> Result<ReadDate, 
 }
 
 /// A date at the offset of a zone.
-fn in_zone(seconds: i64, offset: i32, ignored: Option<usize>) -> Result<ReadDate, DateError> {
+fn in_zone(seconds: i64, offset: i32, ignored: Option<usize>) -> Result<ExactDate, DateError> {
     let date = exact(seconds, offset, ignored)?;
-    Ok(ReadDate {
+    Ok(ExactDate {
         has_offset: false,
         ..date
     })
@@ -135,11 +136,25 @@ fn ages_have_the_unit_of_git() {
 #[test]
 fn offsets_are_numbers_of_hours_and_minutes() {
     for (decimal, offset) in [(0, 0), (530, 19800), (-130, -5400), (-1, -60)] {
-        assert_eq!(offset_of_decimal(decimal), offset);
-        assert_eq!(decimal_of_offset(offset), decimal);
+        assert_eq!(offset_from_decimal(decimal), offset);
+        assert_eq!(offset_to_decimal(offset), decimal);
     }
-    assert_eq!(offset_of_decimal(i32::MIN), -i32::MAX);
-    assert_eq!(decimal_of_offset(-3661), -101);
+    assert_eq!(offset_from_decimal(i32::MIN), -i32::MAX);
+    assert_eq!(offset_to_decimal(-3661), -101);
+}
+
+#[test]
+fn offsets_have_texts() {
+    for (text, offset) in [("+0000", 0), ("-0130", -5400), ("+0530", 19800)] {
+        assert_eq!(parse_offset(text), Ok(offset));
+        assert_eq!(offset_text(offset), text);
+    }
+    assert_eq!(parse_offset("-03:30"), Ok(-12600));
+    assert_eq!(parse_offset("+02"), Ok(7200));
+    assert_eq!(offset_text(i32::MIN), "-59652314");
+    for text in ["", "0200", "+2600", "+0260", "Z"] {
+        assert_eq!(parse_offset(text), Err(Error::InvalidZone), "{text}");
+    }
 }
 
 #[test]
@@ -198,10 +213,7 @@ fn each_kind_of_zone_is_that_of_the_clock() {
 
 #[test]
 fn dates_of_lines_keep_their_offsets() {
-    let time = GitTime {
-        seconds: 1251300000,
-        offset: 60,
-    };
+    let time = GitTime::new(1251300000, 60);
     let texts = [
         ("relative", "4 days ago"),
         ("iso8601-strict", "2009-08-26T16:20:00+00:60"),
@@ -225,7 +237,7 @@ fn dates_of_lines_keep_their_offsets() {
         (i64::MAX, 0, OwnDateError::Range),
     ];
     for (seconds, offset, due) in refusals {
-        let shown = show_git_time(GitTime { seconds, offset }, iso, &now());
+        let shown = show_git_time(GitTime::new(seconds, offset), iso, &now());
         assert_eq!(shown, Err(due), "{seconds} {offset}");
     }
     let nowhere = Moment::at_offset(0, 93600);
@@ -408,7 +420,7 @@ fn errors_are_errors() {
 #[test]
 fn types_have_their_traits() {
     fn are_keys<T: Copy + std::fmt::Debug + Eq + std::hash::Hash + Send + Sync + 'static>() {}
-    are_keys::<ReadDate>();
+    are_keys::<ExactDate>();
     are_keys::<Approximate>();
     are_keys::<Expiry>();
     are_keys::<DateError>();

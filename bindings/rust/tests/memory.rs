@@ -21,10 +21,7 @@ use std::path::Path;
 use std::{env, fs, ptr};
 
 /// The date of a line.
-const OF_LINE: GitTime = GitTime {
-    seconds: 1660797906,
-    offset: 800,
-};
+const OF_LINE: GitTime = GitTime::new(1660797906, 800);
 
 thread_local! {
     static REFUSES: Cell<bool> = const { Cell::new(false) };

@@ -287,7 +287,7 @@ fn parts(line: &str) -> Option<Answer> {
 
 fn told_parts(parts: Result<Signature<'_>, Error>) -> Answer {
     told(parts, |parts| {
-        format!("{}<{}>{}", parts.name, parts.mail, parts.time)
+        format!("{}<{}>{}", parts.name, parts.email, parts.time)
     })
 }
 
@@ -346,8 +346,8 @@ fn answer(mut fields: &[String]) -> Option<Answer> {
             told_time(Signature::from_line(text(row)?).and_then(|parts| parts.time()))
         }
         "write_signature" => {
-            let (name, mail) = (text(row)?, text(row)?);
-            told(write_signature(name, mail, time(row)?), |line| line)
+            let (name, email) = (text(row)?, text(row)?);
+            told(write_signature(name, email, time(row)?), |line| line)
         }
         call => git::answer(call, row)?,
     };

@@ -40,10 +40,7 @@ fn local() -> DateMode {
 }
 
 /// The date of a line.
-const OF_LINE: GitTime = GitTime {
-    seconds: 1699189106,
-    offset: 60,
-};
+const OF_LINE: GitTime = GitTime::new(1699189106, 60);
 
 /// Each call in New York's zone, all with the zone that was read once.
 fn answers_in_new_york(zone: &ReadZone) {

@@ -23,7 +23,7 @@ unfoldable pub use Approximate.Words.{moment_names, moment_named, count_named, i
 unfoldable pub use Approximate.Zones.{clock_at, shown_in, found_by, found_at, filled_instant, moved_to, before, fill, time_of}
 unfoldable pub use Approximate.Zones.{filled_time}
 unfoldable pub use Exact.Computing.{computing}
-unfoldable pub use Exact.Decimals.{with_sign, offset_of_decimal, decimal_of_offset}
+unfoldable pub use Exact.Decimals.{with_sign, offset_from_decimal, offset_to_decimal}
 unfoldable pub use Exact.Fast.{is_date_mark, marked_date, fields_in, SaysFields, Says, has_few_digits}
 pub use Exact.Fast.{WritesTwo, WritesYear, WritesMonth, WritesWeekday, IsGitDate, WritesDate, WritesDay}
 pub use Exact.Fast.{WritesMonthYear, WritesMailDate, WritesMailDay, WritesNamedDay, WritesClock, WritesOffset}
@@ -89,11 +89,10 @@ unfoldable pub use Show.Human.{is_same_day, is_few_days_before, distance_of, oth
 unfoldable pub use Show.Human.{human_text}
 unfoldable pub use Show.Modes.{kind_rows, own, in_zone, mode_rows, mode_named, row_mode, mode_row, mode_held, kind_name, mode_name}
 unfoldable pub use Show.Modes.{NamesMode}
-unfoldable pub use Show.OwnDates.{hours_written, minutes_written, short_decimals, digits_from_two, written_offset_text}
-unfoldable pub use Show.OwnDates.{spaced_offset_text, unknown_decimal, dated_clock, clock_by, line_clock, strict_front, iso_front}
-unfoldable pub use Show.OwnDates.{rfc2822_front, before_day, then_month, known_offset_text, own_clock_text, few_days_offset}
-unfoldable pub use Show.OwnDates.{own_human_text, shown_of_clock, human_by, is_without_offset, own_clock_shown, own_date_shown_by}
-unfoldable pub use Show.OwnDates.{own_date_shown}
+unfoldable pub use Show.OwnDates.{short_decimals, written_offset_text, offset_text, spaced_offset_text, unknown_decimal}
+unfoldable pub use Show.OwnDates.{dated_clock, clock_by, line_clock, strict_front, iso_front, rfc2822_front, before_day}
+unfoldable pub use Show.OwnDates.{then_month, known_offset_text, own_clock_text, few_days_offset, own_human_text, shown_of_clock}
+unfoldable pub use Show.OwnDates.{human_by, is_without_offset, own_clock_shown, own_date_shown_by, own_date_shown}
 unfoldable pub use Show.Texts.{unknown_offset, git_default_text, year_layout, year_text, day_layout, weekday_layout}
 unfoldable pub use Show.Texts.{short_clock_text, day_and_clock_text, weekday_and_clock_text}
 unfoldable pub use Tokens.Names.{is_weekday, is_zone_name, ahead, behind, zone_rows, zone_held, AreZones, has_initial}

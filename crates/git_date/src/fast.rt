@@ -5,7 +5,7 @@ ghost use Rattle.gix_date.specs as GixDate;
 
 use crate::fields::Fields;
 use crate::fields::offsets::signed_minutes;
-use gix_date::names::{day_name, month_name, month_told, weekday_told};
+use gix_date::names::{day_name, month_name, month_of_word, weekday_of_word};
 
 /// Year, month and day.
 type Date = (u16, u8, u8);
@@ -49,7 +49,7 @@ fn month(a: u8, b: u8, c: u8) -> Option<u8>
     ensures { IfSome result (Spec.WritesMonth (a ∷ b ∷ c ∷ [])) }
 {
     let name: &[u8] = &[a, b, c];
-    let month = month_told(name)?;
+    let month = month_of_word(name)?;
     (month_name(month).as_bytes() == name).then_some(month)
 }
 
@@ -59,7 +59,7 @@ fn weekday(a: u8, b: u8, c: u8) -> Option<u8>
     ensures { IfSome result (Spec.WritesWeekday (a ∷ b ∷ c ∷ [])) }
 {
     let name: &[u8] = &[a, b, c];
-    let weekday = weekday_told(name)?;
+    let weekday = weekday_of_word(name)?;
     (day_name(weekday).as_bytes() == name).then_some(weekday)
 }
 

@@ -65,11 +65,11 @@ pub fn text_by_format(
         ≡ Some (string_bytes text))
         (Spec.RefusesText (Spec.shown_by_format (Spec.moment_of now.entry).zone local (Spec.format_bytes format.entry) time)) }
 {
-    text_by_format_in(alloc, time, format, local, now.time_zone())
+    text_by_format_in_zone(alloc, time, format, local, now.time_zone())
 }
 
 /// [`text_by_format`] in a zone, which is all that a format needs of a moment.
-pub fn text_by_format_in(
+pub fn text_by_format_in_zone(
     alloc: Global,
     time: Time,
     format: DateFormat<'_>,
@@ -86,13 +86,13 @@ pub fn text_by_format_in(
     Ok(text)
 }
 
-/// Puts what [`text_by_format_in`] gives by a format that was not checked into a text of at most 255 bytes, by one walk over
+/// Puts what [`text_by_format_in_zone`] gives by a format that was not checked into a text of at most 255 bytes, by one walk over
 /// the format.
 ///
 /// `false` says nothing: the format may have a fault, the time no such clock, or the text no room. Then ask
-/// [`DateFormat::new`] and [`text_by_format_in`]. Years after 2099 are never shown so. Takes no memory.
+/// [`DateFormat::new`] and [`text_by_format_in_zone`]. Years after 2099 are never shown so. Takes no memory.
 #[tactic(auto, using(crate::proofs::Formats::Walks::whole_checked), unfolding(crate::specs::shown_by_format))]
-pub fn short_by_format(
+pub fn text_by_format_short(
     time: Time,
     format: &str,
     local: bool,
@@ -112,7 +112,7 @@ pub fn short_by_format(
 
 /// The same by the time's own clock, for which no zone matters, into a text of at most 120 bytes.
 #[tactic(auto, using(crate::proofs::Formats::Walks::whole_checked), unfolding(crate::specs::shown_by_format))]
-pub fn brief_by_own_clock(time: Time, format: &str, out: &mut BriefText) -> bool
+pub fn text_by_format_brief(time: Time, format: &str, out: &mut BriefText) -> bool
     ensures whole { IsTrue result → Spec.checked format.now ≡ Ok format.now }
     ensures shown { IsTrue result → (zone : Zone) → Spec.shown_by_format zone false format.now time ≡ Some out.new.bytes }
 {

@@ -27,7 +27,7 @@
 //!
 //! The text of a date is bytes, UTF-8 or not, as in Git: each byte that is not ASCII is a mark, and a NUL ends the text. The
 //! moment and its zone are handed in, as for [`gix_date::parse`]. No call here takes memory, but for
-//! [`text_by_format`] and [`text_by_format_in`].
+//! [`text_by_format`] and [`text_by_format_in_zone`].
 #![tactic(auto)]
 
 mod approximate;
@@ -46,15 +46,16 @@ mod zones;
 pub use approximate::{Approximate, Expiry, approxidate, expiry_date};
 pub use error::DateError;
 pub use format::{
-    BriefText, DateFormat, FormatFault, ShortText, ShowError, brief_by_own_clock, short_by_format,
-    show_by_format, text_by_format, text_by_format_in,
+    BriefText, DateFormat, FormatFault, ShortText, ShowError, show_by_format, text_by_format,
+    text_by_format_brief, text_by_format_in_zone, text_by_format_short,
 };
 pub use mode::{DateKind, DateMode, UnknownMode};
-pub use reader::{ReadDate, parse_date, parse_date_at};
+pub use reader::{ExactDate, parse_date, parse_date_at};
 pub use show::{
-    Age, DateText, OwnDateError, OwnDateText, age_at, show_date, show_date_at, show_git_time,
+    Age, DateText, OffsetText, OwnDateError, OwnDateText, age_at, offset_text, show_date,
+    show_date_at, show_git_time,
 };
 pub use zone_texts::{
-    MACHINE_ZONE, TableError, ZONE_FOLDER, decimal_of_offset, offset_of_decimal, zone_file,
-    zone_folder, zone_of_text, zone_offset, zone_table, zone_without_file,
+    MACHINE_ZONE, TableError, ZONE_FOLDER, offset_from_decimal, offset_to_decimal, parse_offset,
+    zone_file, zone_folder, zone_of_text, zone_table, zone_without_file,
 };

@@ -288,7 +288,7 @@ pub(crate) fn said_by(now: Timestamp, text: &[u8]) -> Result<Said, DateError>
 
 /// What [`parse_date`] reads.
 #[derive(Clone, Copy, Debug, PartialEq, Eq)]
-pub struct ReadDate {
+pub struct ExactDate {
     /// The time: seconds since 1970-01-01 00:00:00 UTC, and the offset in seconds east of UTC, of whole minutes.
     pub time: Time,
     /// Whether the text names its offset, as `+0200`, `Z` or `EST`, so that each zone gives the same date. As in Git, `-0001` names
@@ -311,9 +311,9 @@ pub struct ReadDate {
 /// more than ten days ahead.
 ///
 /// The text is bytes, UTF-8 or not: each byte that is not ASCII is a mark, which is skipped. As in Git, whose dates are C strings,
-/// a NUL ends the text: [`ReadDate::ignored`] tells of it, also where nothing follows. [`DateError`] says when a text is
+/// a NUL ends the text: [`ExactDate::ignored`] tells of it, also where nothing follows. [`DateError`] says when a text is
 /// refused. A place that the answer has is one where a character of the text begins. Takes no memory.
-pub fn parse_date(text: &[u8], now: Zoned<'_>) -> Result<ReadDate, DateError>
+pub fn parse_date(text: &[u8], now: Zoned<'_>) -> Result<ExactDate, DateError>
     ensures date { Spec.DateOutcome now.entry text.now result }
     ensures places { Spec.HasPlacesIn text.now result }
 {
@@ -322,7 +322,11 @@ pub fn parse_date(text: &[u8], now: Zoned<'_>) -> Result<ReadDate, DateError>
 
 /// [`parse_date`] at an instant in a zone. The zone is asked only for a text without an offset, so most texts cost less so.
 #[tactic(auto, using(crate::proofs::Exact::Places::places))]
-pub fn parse_date_at(text: &[u8], now: Timestamp, zone: TimeZone<'_>) -> Result<ReadDate, DateError>
+pub fn parse_date_at(
+    text: &[u8],
+    now: Timestamp,
+    zone: TimeZone<'_>,
+) -> Result<ExactDate, DateError>
     ensures date { Spec.DateOutcomeAt now.nanosecond (plain_zone zone.entry) text.now result }
     ensures places { Spec.HasPlacesIn text.now result }
 {
@@ -330,7 +334,7 @@ pub fn parse_date_at(text: &[u8], now: Timestamp, zone: TimeZone<'_>) -> Result<
 }
 
 /// The date that a text says, in the zone if it says no offset.
-fn date_said(said: Result<Said, DateError>, zone: TimeZone<'_>) -> Result<ReadDate, DateError>
+fn date_said(said: Result<Said, DateError>, zone: TimeZone<'_>) -> Result<ExactDate, DateError>
     requires { IfOk said Spec.SaidIsInstant }
     ensures { result ≡ Spec.date_of (plain_zone zone.entry) said }
 {
@@ -356,14 +360,14 @@ fn instant_seconds(said: Said, minutes: i64) -> i64
 
 /// The date at an offset in minutes. For seconds below 0 Git prints 2^64 more, so they are refused.
 #[tactic(auto, using(gix_date::proofs::Text::Ints::held, jiff_core::proofs::SignedLemmas::signed_arith), unfolding(crate::specs::date_at))]
-fn date_at(said: Said, minutes: i32) -> Result<ReadDate, DateError>
+fn date_at(said: Said, minutes: i32) -> Result<ExactDate, DateError>
     requires said { Spec.SaidIsInstant said }
     requires minutes { Spec.IsMinutes minutes }
     ensures { result ≡ Spec.date_at said minutes }
 {
     let seconds = instant_seconds(said, i64::from(minutes));
     if 0 <= seconds {
-        Ok(ReadDate {
+        Ok(ExactDate {
             time: Time::new(seconds, 60 * minutes),
             has_offset: said.offset.is_some(),
             ignored: said.ignored,
@@ -374,7 +378,7 @@ fn date_at(said: Said, minutes: i32) -> Result<ReadDate, DateError>
 }
 
 /// The date at the zone's offset where its clock shows these seconds. Git keeps whole minutes of an offset.
-fn date_in_zone(said: Said, zone: TimeZone<'_>) -> Result<ReadDate, DateError>
+fn date_in_zone(said: Said, zone: TimeZone<'_>) -> Result<ExactDate, DateError>
     requires { Spec.SaidIsInstant said }
     ensures { result ≡ Spec.date_in said (Spec.said_in (Spec.states_of (plain_zone zone.entry)) said) }
 {

@@ -23,7 +23,7 @@ use gix_date::{Time, Zoned};
 use human::human_text;
 use jiff::Timestamp;
 use jiff::tz::TimeZone;
-pub use own::{OwnDateError, OwnDateText, show_git_time};
+pub use own::{OffsetText, OwnDateError, OwnDateText, offset_text, show_git_time};
 
 /// The most bytes of a shown date: those of [`DateKind::Rfc2822`].
 const MAX_DATE_LEN: usize = 31;

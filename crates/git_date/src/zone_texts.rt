@@ -20,7 +20,7 @@ const MAX_MINUTES: u8 = 59;
 /// The seconds east of UTC of an offset: a sign, two digits of hours to 25, and perhaps two of minutes, with a colon before
 /// them or without: `+0200`, `-03:30`, `+02`. `None` for any other text. Takes no memory.
 #[tactic(auto, unfolding(crate::specs::zone_offset))]
-pub fn zone_offset(text: &[u8]) -> Option<i32>
+pub fn parse_offset(text: &[u8]) -> Option<i32>
     ensures value { result ≡ Spec.zone_offset text.now }
     ensures near { IfSome result Spec.IsNear }
 {
@@ -76,9 +76,9 @@ const WIDEST: u32 = 2_147_483_647;
 /// The offset that a number says as Git's own code has it: hours and two digits of minutes, west of UTC below 0. So -130 is
 /// `-0130`, which is -5400 seconds. One of more than 2147483647 seconds is that many, and no date is shown with it. Takes no
 /// memory.
-#[tactic(auto, unfolding(crate::specs::offset_of_decimal))]
-pub fn offset_of_decimal(decimal: i32) -> i32
-    ensures { result ≡ Spec.offset_of_decimal decimal }
+#[tactic(auto, unfolding(crate::specs::offset_from_decimal))]
+pub fn offset_from_decimal(decimal: i32) -> i32
+    ensures { result ≡ Spec.offset_from_decimal decimal }
 {
     let digits = u64::from(decimal.unsigned_abs());
     let seconds = 3600 * (digits / 100) + 60 * (digits % 100);
@@ -87,9 +87,9 @@ pub fn offset_of_decimal(decimal: i32) -> i32
 
 /// The number that says an offset in seconds, as Git's own code has it: -5400 is -130. Seconds beyond whole minutes are
 /// dropped. Takes no memory.
-#[tactic(auto, unfolding(crate::specs::decimal_of_offset))]
-pub fn decimal_of_offset(offset: i32) -> i32
-    ensures { result ≡ Spec.decimal_of_offset offset }
+#[tactic(auto, unfolding(crate::specs::offset_to_decimal))]
+pub fn offset_to_decimal(offset: i32) -> i32
+    ensures { result ≡ Spec.offset_to_decimal offset }
 {
     let seconds = offset.unsigned_abs();
     with_sign(offset, 100 * (seconds / 3600) + seconds % 3600 / 60)

@@ -7,7 +7,7 @@ use Rattle.gix_date.specs.Families.Order.{first_family_by, ParseNoAllocOutcome}
 use Rattle.gix_date.specs.Families.Raw.{OffsetRule}
 use Rattle.gix_date.specs.declared.time.Time.{Time}
 use Rattle.git_date.specs.Exact.Outcome.{DateOutcome}
-use Rattle.git_date.specs.declared.reader.ReadDate.{ReadDate}
+use Rattle.git_date.specs.declared.reader.ExactDate.{ExactDate}
 
 -- the family's texts are seconds since 1970
 abbrev pub has_seconds : Family → Bool
@@ -32,13 +32,13 @@ HasNoLeapSecond text = (before after : List ℕ) → text ≡ before ++ (codes "
 -- Both read a text of such a family, and Git its offset and all of it: then both read the same time.
 abbrev pub AgreesOnSeconds : OffsetRule → Zoned → List ℕ → Type 0
 AgreesOnSeconds rule moment text =
-    (family : Family) (now : Option Zoned) (time : Time) (date : ReadDate) → has_seconds family ≡ true → Holds rule family text
+    (family : Family) (now : Option Zoned) (time : Time) (date : ExactDate) → has_seconds family ≡ true → Holds rule family text
     → ParseNoAllocOutcome (first_family_by rule text) now (Ok time)
     → DateOutcome moment text (Ok date) → date.has_offset ≡ true → date.ignored ≡ None → date.time ≡ time
 
 -- so it is of formatted dates from 1970 on
 abbrev pub AgreesOnDates : OffsetRule → Zoned → List ℕ → Type 0
 AgreesOnDates rule moment text =
-    (family : Family) (now : Option Zoned) (time : Time) (date : ReadDate) → has_clock family ≡ true → Holds rule family text
+    (family : Family) (now : Option Zoned) (time : Time) (date : ExactDate) → has_clock family ≡ true → Holds rule family text
     → pos 0 ≤ℤ time.seconds → HasNoLeapSecond text → ParseNoAllocOutcome (first_family_by rule text) now (Ok time)
     → DateOutcome moment text (Ok date) → date.has_offset ≡ true → date.ignored ≡ None → date.time ≡ time

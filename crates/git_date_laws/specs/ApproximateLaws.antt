@@ -14,19 +14,19 @@ use Rattle.git_date.specs.Tokens.Numbers.{max_small}
 use Rattle.git_date.specs.Exact.Outcome.{DateOutcome}
 use Rattle.git_date.specs.Tokens.Strings.{nul_place}
 use Rattle.git_date.specs.declared.approximate.Approximate.{Approximate}
-use Rattle.git_date.specs.declared.reader.ReadDate.{ReadDate}
+use Rattle.git_date.specs.declared.reader.ExactDate.{ExactDate}
 use Rattle.git_date.specs.declared.error.DateError.{DateError}
 
 -- where the exact reader reads a text, the approximate one has its answer
 abbrev pub HasExactAnswer : Zoned → List ℕ → Type 0
 HasExactAnswer moment text =
-    (date : ReadDate) (result : Result Approximate DateError) → DateOutcome moment text (Ok date) → ApproximateOutcome moment text result
+    (date : ExactDate) (result : Result Approximate DateError) → DateOutcome moment text (Ok date) → ApproximateOutcome moment text result
     → result ≡ Ok (record { time = date.time; understood = true; ignored = date.ignored })
 
 -- in a zone of one offset the answer is one, by a definition that asks no zone
 abbrev pub HasOneAnswer : Zoned → List ℕ → Type 0
 HasOneAnswer moment text =
-    (o : Offset) (exact : Result ReadDate DateError) (result : Result Approximate DateError) → zone_of moment ≡ fixed_zone o
+    (o : Offset) (exact : Result ExactDate DateError) (result : Result Approximate DateError) → zone_of moment ≡ fixed_zone o
     → DateOutcome moment text exact → ApproximateOutcome moment text result
     → result ≡ exact_or_guess exact (guess (one_offset o.seconds) (now_of moment) text)
 

@@ -12,7 +12,7 @@ use Rattle.git_date.specs.Exact.Outcome.{DateOutcome, read_at}
 use Rattle.git_date_laws.specs.Texts.Printed.{IsGitTime}
 use Rattle.git_date.specs.Show.Dates.{shown}
 use Rattle.git_date.specs.Show.Clocks.{Moment, time_at}
-use Rattle.git_date.specs.declared.reader.ReadDate.{ReadDate}
+use Rattle.git_date.specs.declared.reader.ExactDate.{ExactDate}
 use Rattle.git_date.specs.declared.mode.DateKind.{DateKind}
 use Rattle.git_date.specs.declared.mode.DateKind.TheVariants.{Iso8601Strict, Iso8601, Rfc2822, Default, Raw, Unix}
 use Rattle.git_date_laws.specs.ApproximateLaws.{HasExactAnswer, HasAnswerInAnyCase, IsNowIfFound}
@@ -58,7 +58,7 @@ IsReadAsRaw moment t =
 -- what `unix` shows of such seconds is read as these seconds, wherever the zone has an offset there
 abbrev pub IsReadAsUnix : Zoned → Time → Type 0
 IsReadAsUnix moment t =
-    (local : Bool) (at : Moment) (tz : TimeZone) (text : List ℕ) (date : ReadDate) → IsEpoch t.seconds
+    (local : Bool) (at : Moment) (tz : TimeZone) (text : List ℕ) (date : ExactDate) → IsEpoch t.seconds
     → shown at (record { kind = Unix; local = local }) t ≡ Some text → read_at (zoned_nanos moment) tz text ≡ Ok date
     → (date.time.seconds ≡ t.seconds) × (date.ignored ≡ None)
 

@@ -5,7 +5,7 @@ use Rattle.std.specs.Option.{option_or}
 use Rattle.jiff.specs.declared.zoned.Zoned.{Zoned}
 use Rattle.gix_date.specs.Relative.Steps.{zone_of}
 use Rattle.gix_date.specs.Text.Characters.{newline, minus, colon, dot}
-use Rattle.gix_date.specs.Text.LongNames.{month_told}
+use Rattle.gix_date.specs.Text.LongNames.{month_of_word}
 use Rattle.gix_date.specs.Text.Names.{is_name}
 use Rattle.git_date.specs.Approximate.Rules.{are_digits_next}
 use Rattle.git_date.specs.Rules.Clocks.{utc_clock}
@@ -24,12 +24,12 @@ use Rattle.git_date.specs.Tokens.Strings.{before_nul, nul_place}
 use Rattle.git_date.specs.Tokens.Tokens.{Token, Letters, Digits, Mark, tokens, bytes_left}
 use Rattle.git_date.specs.Types.Names.{Now, Dated, Fields, Group, Said}
 use Rattle.git_date.specs.Rules.Words.{is_any_of, is_filler, letters_rule}
-use Rattle.git_date.specs.declared.reader.ReadDate.{ReadDate}
+use Rattle.git_date.specs.declared.reader.ExactDate.{ExactDate}
 
 -- a known word: a month, a day of the week, a zone, `PM`, `AM`, or a filler
 abbrev pub is_known : List ℕ → Bool
 is_known word =
-    is_some (month_told word) || is_weekday word || is_some (zone_named word) || is_name word (codes "PM") || is_name word (codes "AM")
+    is_some (month_of_word word) || is_weekday word || is_some (zone_named word) || is_name word (codes "PM") || is_name word (codes "AM")
     || is_filler word
 
 -- a known word, with no digits directly after it
@@ -148,7 +148,7 @@ first_of (left ∷ more) = Some left
 
 -- The date is that of the last fields of a walk over the tokens. What is ignored is the first token that is not used, or else what
 -- begins at a NUL.
-pub record IsFirstUnused (moment : Zoned) (text : List ℕ) (date : ReadDate) : Type 0 where
+pub record IsFirstUnused (moment : Zoned) (text : List ℕ) (date : ExactDate) : Type 0 where
   pub unused : List ℕ
   pub last : Fields
   pub said : Said
@@ -162,5 +162,5 @@ pub record IsFirstUnused (moment : Zoned) (text : List ℕ) (date : ReadDate) : 
 -- So it is of every text that is read. Of one that begins with `@`, seconds and an offset nothing is ignored but what begins at a NUL.
 abbrev pub IgnoresUnused : Zoned → List ℕ → Type 0
 IgnoresUnused moment text =
-    (date : ReadDate) → DateOutcome moment text (Ok date)
+    (date : ExactDate) → DateOutcome moment text (Ok date)
     → MatchOption (at_text (tokens (before_nul text))) (IsFirstUnused moment text date) (λ at. date.ignored ≡ nul_place text)

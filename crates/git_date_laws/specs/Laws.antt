@@ -20,7 +20,7 @@ use Rattle.git_date.specs.Exact.Reading.{said_up_to, said_by}
 use Rattle.git_date.specs.Exact.Outcome.{DateOutcome, DateOutcomeAt, said_offset}
 use Rattle.git_date.specs.Exact.Zones.{States, states_of, state_by, is_same, found_offset}
 use Rattle.git_date.specs.Types.Names.{ZoneState}
-use Rattle.git_date.specs.declared.reader.ReadDate.{ReadDate}
+use Rattle.git_date.specs.declared.reader.ExactDate.{ExactDate}
 use Rattle.git_date.specs.declared.error.DateError.{DateError}
 use Rattle.git_date.specs.declared.mode.DateKind.TheVariants.{Raw}
 
@@ -38,14 +38,14 @@ AreApart (t ∷ more) = IsApart t more × AreApart more
 -- a text that says its offset has the same answer in every zone
 abbrev pub IgnoresZone : Zoned → List ℕ → Type 0
 IgnoresZone moment text =
-    (tz other : TimeZone) (minutes : ℤ) (result : Result ReadDate DateError)
+    (tz other : TimeZone) (minutes : ℤ) (result : Result ExactDate DateError)
     → said_offset (said_by (now_of moment) text) ≡ Some minutes
     → DateOutcomeAt (zoned_nanos moment) tz text result ↔ DateOutcomeAt (zoned_nanos moment) other text result
 
 -- a date that has its own offset is read so in every zone
 abbrev pub IsOfEveryZone : Zoned → List ℕ → Type 0
 IsOfEveryZone moment text =
-    (tz other : TimeZone) (date : ReadDate) → date.has_offset ≡ true
+    (tz other : TimeZone) (date : ExactDate) → date.has_offset ≡ true
     → DateOutcomeAt (zoned_nanos moment) tz text (Ok date) → DateOutcomeAt (zoned_nanos moment) other text (Ok date)
 
 -- a text says the same in any letter case
@@ -72,7 +72,7 @@ IsWithoutDayMonth moment text = has_day_month (tokens (before_nul text)) ≡ fal
 -- what `raw` shows of an instant is read after `@` as that time, and nothing of it is ignored
 abbrev pub ReadsRawBack : Zoned → Time → Type 0
 ReadsRawBack moment t =
-    (now : Moment) (text : List ℕ) (result : Result ReadDate DateError) → is_instant t.seconds ≡ true → shown now (own Raw) t ≡ Some text
+    (now : Moment) (text : List ℕ) (result : Result ExactDate DateError) → is_instant t.seconds ≡ true → shown now (own Raw) t ≡ Some text
     → DateOutcome moment (at_sign ∷ text) result → result ≡ Ok (record { time = t; has_offset = true; ignored = None })
 
 -- the zone's clock shows these seconds at an offset

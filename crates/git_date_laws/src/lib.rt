@@ -39,7 +39,7 @@ pub fn tokens(text: &[u8])
     ensures apart { Spec.AreApart (GitDate.tokens text.now) }
 {}
 
-/// A date that says its offset has the same answer in every zone. [`git_date::ReadDate::has_offset`] tells of such a date.
+/// A date that says its offset has the same answer in every zone. [`git_date::ExactDate::has_offset`] tells of such a date.
 #[tactic(auto, using(crate::proofs::Back::Zones::zones, crate::proofs::Back::Zones::every_zone))]
 pub fn written_offset(text: &[u8], now: &Zoned<'_>)
     ensures said { Spec.IgnoresZone now.now text.now }

@@ -10,7 +10,7 @@ pub(crate) mod warnings;
 use crate::answers::refusals::{Refusal, of_careful, of_git, of_gix};
 use crate::answers::warnings::{Numbered, Warning, warning_of};
 use git_date::{
-    Approximate, DateFormat, DateKind, DateMode, DateText, FormatFault, ReadDate, ShowError,
+    Approximate, DateFormat, DateKind, DateMode, DateText, ExactDate, FormatFault, ShowError,
     approxidate, parse_date, show_date, text_by_format,
 };
 use gix_date::bytes::text_of;
@@ -242,7 +242,7 @@ fn careful_options() -> CarefulOptions
 }
 
 /// An exact date is understood.
-fn of_exact(date: ReadDate) -> Approximate
+fn of_exact(date: ExactDate) -> Approximate
     ensures { result ≡ Spec.of_exact date }
 {
     Approximate {

@@ -16,7 +16,7 @@ use crate::program::arguments::{Command, Request, read_words};
 use crate::program::wrong::{WrongWords, place_digits};
 use crate::runs::{Verdict, run_over, run_through};
 use crate::zones::{NoZone, ZoneText, zone_source, zone_text};
-use git_date::{ReadDate, parse_date_at};
+use git_date::{ExactDate, parse_date_at};
 use gix_date::Zoned;
 use gix_date::device::{Sink, Source};
 use jiff::Timestamp;
@@ -359,7 +359,7 @@ pub(crate) fn instant_of(text: &str, zone: TimeZone<'_>) -> Result<Timestamp, No
 {
     match parse_date_at(text.as_bytes(), Timestamp::MAX, zone) {
         Ok(
-            ReadDate {
+            ExactDate {
                 time,
                 ignored: None,
                 has_offset: _,

@@ -7,7 +7,7 @@ ghost use Rattle.git_date.specs as GitDate;
 ghost use Rattle.git_date_tool.specs.declared.zones.TheConstants.{MAX_FILE_BYTES};
 
 use git_date::{
-    MACHINE_ZONE, TableError, zone_file, zone_folder, zone_offset, zone_table, zone_without_file,
+    MACHINE_ZONE, TableError, parse_offset, zone_file, zone_folder, zone_table, zone_without_file,
 };
 use jiff::tz::{Offset, TimeZone, Tzif};
 use std::alloc::{AllocError, Global};
@@ -148,7 +148,7 @@ fn source_without_file(tz: &str, why: NoZone) -> Result<ZoneSource, NoZone>
 pub(crate) fn offset_zone(text: &str) -> Option<TimeZone<'static>>
     ensures { Spec.IsOffsetZone (GitDate.zone_offset text.now) (option_map plain_zone result) }
 {
-    match zone_offset(text.as_bytes()) {
+    match parse_offset(text.as_bytes()) {
         Some(seconds) => Some(fixed_zone(seconds)),
         None => None,
     }

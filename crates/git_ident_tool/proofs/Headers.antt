@@ -11,7 +11,7 @@ use Rattle.gix_date.specs.Text.Characters.{newline}
 use Rattle.streams.specs.Lines.{IsLine, with_newline}
 use Rattle.gix_signature.specs.Ident.Bytes.{is_newline}
 use Rattle.git_ident_tool.specs.Judging.{IsFilledLine}
-use Rattle.git_ident_tool.specs.Objects.{is_filled, own_header}
+use Rattle.gix_signature.specs.Objects.{is_filled, own_header}
 
 -- no byte of a line is a newline
 no-newline : (line : List ℕ) → IsLine line → All (λ c. is_newline c ≡ false) line

@@ -18,7 +18,8 @@ use Rattle.streams.specs.declared.error.ToolError.TheVariants as errors
 use Rattle.git_ident_tool.specs.Cursor.{ReadsLine}
 use Rattle.git_ident_tool.specs.Judging.{Flow, flow, lines_due, are_clean, objects_due, is_clean_object, Wrote, IsFilledLine, JudgesAll}
 use Rattle.git_ident_tool.specs.Judging.{JudgesPart, IsOfInput}
-use Rattle.git_ident_tool.specs.Objects.{Object, IsObject, has_own_header, lines_of, own_header, stream_text}
+use Rattle.gix_signature.specs.Objects.{own_header}
+use Rattle.git_ident_tool.specs.Objects.{Object, IsObject, has_own_header, lines_of, stream_text}
 use Rattle.git_ident_tool.specs.Verdicts.{Tells, is_clean_in, line_due}
 use Rattle.git_ident_tool.specs.declared.error.Fault.{Fault}
 use Rattle.git_ident_tool.specs.declared.error.Fault.TheVariants.{Tool, Refused, Stream}

@@ -6,7 +6,8 @@ use Rattle.gix_signature.specs.Ident.Fsck.{first_fault, fsck_of}
 use Rattle.gix_signature.specs.Ident.Times.{c_number}
 use Rattle.git_ident_tool.specs.Command.{asked, asked_from}
 use Rattle.git_ident_tool.specs.Judging.{object_due}
-use Rattle.git_ident_tool.specs.Objects.{Object, object_text, own_header, read_header}
+use Rattle.gix_signature.specs.Objects.{own_header}
+use Rattle.git_ident_tool.specs.Objects.{Object, object_text, read_header}
 use Rattle.git_ident_tool.specs.Verdicts.{line_due, text_due}
 use Rattle.git_ident_tool.specs.declared.error.HeaderFault.TheVariants.{BadHeader, BadSize, NoObject}
 use Rattle.git_ident_tool.specs.declared.verdicts.Telling.TheVariants.{Faults, All}

@@ -8,7 +8,8 @@ use Rattle.streams.specs.Changes.{Change}
 use Rattle.streams.specs.declared.error.ToolError.TheVariants as errors
 use Rattle.streams.specs.declared.lines.TheConstants.{MAX_LINE_LEN}
 use Rattle.git_ident_tool.specs.Cursor.{IsOver}
-use Rattle.git_ident_tool.specs.Objects.{Object, IsObject, lines_of, own_header, read_header, stream_text}
+use Rattle.gix_signature.specs.Objects.{own_header}
+use Rattle.git_ident_tool.specs.Objects.{Object, IsObject, lines_of, read_header, stream_text}
 use Rattle.git_ident_tool.specs.Verdicts.{line_due, is_clean_in}
 use Rattle.git_ident_tool.specs.declared.error.Fault.{Fault}
 use Rattle.git_ident_tool.specs.declared.error.Fault.TheVariants.{Tool, Refused, Stream}

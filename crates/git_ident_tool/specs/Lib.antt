@@ -19,10 +19,10 @@ pub use Judging.{Flow, BeginsWith, JudgesAll, JudgesPart, SkipsRest, StopsInRest
 pub use Judging.{BreaksObject, JudgesAllObjects, InHeader, AtHeader, AfterHeader, StopsAfterObjects}
 unfoldable pub use Lines.{texts_due, BreaksAt, JudgesTexts, fault_in, result_of, JudgesLines, JudgesTo}
 unfoldable pub use Objects.{begins, kind_start, kinds, kind_of, is_number, size_of, header_with, header_after, is_no_object}
-unfoldable pub use Objects.{read_header, object_text, stream_text, is_filled, own_header, has_own_header, lines_of}
+unfoldable pub use Objects.{read_header, object_text, stream_text, has_own_header, lines_of}
 pub use Objects.{Object, IsObject}
 unfoldable pub use Program.{status_of, wrong_words, Says, usage_message, message_of, Prints, JudgesAs, end_of, EndsCommand}
 pub use Program.{Executes, ShowsUsage}
 pub use Served.{no_lines, more_lines}
-unfoldable pub use Verdicts.{role_words, role_start, roles_of, role_in, fault_of, fsck_words, verdict_words, is_told, told}
-unfoldable pub use Verdicts.{object_told, text_due, role_due, line_due, is_clean, is_clean_in, Tells}
+unfoldable pub use Verdicts.{role_words, roles_of, role_in, fault_of, fsck_words, verdict_words, is_told, told, object_told}
+unfoldable pub use Verdicts.{text_due, role_due, line_due, is_clean, is_clean_in, Tells}

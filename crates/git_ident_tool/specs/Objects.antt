@@ -1,13 +1,13 @@
 -- Objects as `git cat-file --batch` prints them, and the lines of their headers.
 use Rattle.std.specs.Prelude.{◌≡◌, ℕ, Bool, true, false, ◌&&◌, ◌||◌, nat_eq, nat_lt, List, [], ◌∷◌, ◌++◌, length, drop, Option, Some, None}
-use Rattle.std.specs.Prelude.{Result, Ok, Err, if◌then◌else◌, codes, take_while}
+use Rattle.std.specs.Prelude.{Result, Ok, Err, if◌then◌else◌, codes}
 use Rattle.std.specs.Char.{is_ascii_digit}
-use Rattle.std.specs.List.{after_first, find, flat_map, list_all, slice_split, starts_with, ends_with}
+use Rattle.std.specs.List.{after_first, find, flat_map, list_all, starts_with, ends_with}
 use Rattle.std.specs.Str.Parse.{digits_value}
 use Rattle.gix_date.specs.Text.Characters.{is_space}
 use Rattle.streams.specs.Lines.{IsLine, with_newline}
-use Rattle.gix_signature.specs.Ident.Bytes.{is_newline}
 use Rattle.gix_signature.specs.Ident.Times.{held_number}
+use Rattle.gix_signature.specs.Objects.{own_header}
 use Rattle.git_ident_tool.specs.declared.error.HeaderFault.{HeaderFault}
 use Rattle.git_ident_tool.specs.declared.error.HeaderFault.TheVariants.{BadHeader, BadSize, NoObject}
 use Rattle.git_ident_tool.specs.declared.header.Header.{Header}
@@ -79,14 +79,6 @@ object_text object = with_newline object.header ++ with_newline object.contents
 -- a stream of objects
 abbrev pub stream_text : List Object → List ℕ
 stream_text objects = flat_map object_text objects
-
--- a line has a byte
-abbrev pub is_filled : List ℕ → Bool
-is_filled line = nat_lt 0 (length line)
-
--- the lines of an object's own header: those before the first empty line
-abbrev pub own_header : List ℕ → List (List ℕ)
-own_header contents = take_while is_filled (slice_split is_newline contents)
 
 -- such an object has a header of its own, whose lines are looked at
 abbrev pub has_own_header : Kind → Bool

@@ -9,13 +9,14 @@ use Rattle.streams.specs.Changes.{Change}
 use Rattle.streams.specs.declared.error.ToolError.{ToolError}
 use Rattle.streams.specs.declared.error.ToolError.TheVariants as errors
 use Rattle.gix_signature.specs.Ident.Fsck.{fsck_of}
+use Rattle.gix_signature.specs.Objects.{role_start}
 use Rattle.gix_signature.specs.declared.fsck.FsckId.{FsckId}
 use Rattle.gix_signature.specs.declared.fsck.FsckId.TheVariants.{NulInHeader, MissingNameBeforeEmail, BadName, MissingEmail}
 use Rattle.gix_signature.specs.declared.fsck.FsckId.TheVariants.{MissingSpaceBeforeEmail, BadEmail, MissingSpaceBeforeDate, ZeroPaddedDate}
 use Rattle.gix_signature.specs.declared.fsck.FsckId.TheVariants.{BadDateOverflow, BadDate, BadTimezone}
 use Rattle.git_ident_tool.specs.Objects.{begins}
-use Rattle.git_ident_tool.specs.declared.verdicts.Role.{Role}
-use Rattle.git_ident_tool.specs.declared.verdicts.Role.TheVariants.{Author, Committer, Tagger}
+use Rattle.gix_signature.specs.declared.object.Role.{Role}
+use Rattle.gix_signature.specs.declared.object.Role.TheVariants.{Author, Committer, Tagger}
 use Rattle.git_ident_tool.specs.declared.verdicts.Telling.{Telling}
 use Rattle.git_ident_tool.specs.declared.verdicts.Telling.TheVariants.{Faults, All}
 use Rattle.git_ident_tool.specs.declared.header.Kind.{Kind}
@@ -26,12 +27,6 @@ abbrev pub role_words : Role → List ℕ
 role_words Author = codes "author"
 role_words Committer = codes "committer"
 role_words Tagger = codes "tagger"
-
--- how a line of a header begins that names it
-abbrev pub role_start : Role → List ℕ
-role_start Author = codes "author "
-role_start Committer = codes "committer "
-role_start Tagger = codes "tagger "
 
 -- the roles in the header of such an object
 abbrev pub roles_of : Kind → List Role

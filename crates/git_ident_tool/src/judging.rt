@@ -3,13 +3,15 @@ ghost use Rattle.std.specs.Prelude.{◌≡◌, ◌&&◌, drop, length, true};
 ghost use Rattle.std.specs.List.{before_first};
 ghost use Rattle.git_ident_tool.specs as Spec;
 ghost use Rattle.gix_date.specs as GixDate;
+ghost use Rattle.gix_signature.specs as GixSignature;
 ghost use Rattle.streams.specs as Streams;
 
 use crate::error::{Fault, HeaderFault, StreamFault};
 use crate::header::{Header, Kind, id_of, read_header};
 use crate::stream::{Cursor, LineEnd};
-use crate::verdicts::{Role, Telling, fault_of, is_told, line_reply, object_reply, role_in};
+use crate::verdicts::{Telling, fault_of, is_told, line_reply, object_reply, role_in};
 use gix_date::device::{Device, Sink, Source, put_all};
+use gix_signature::Role;
 use std::alloc::Global;
 use std::io;
 use streams::{MAX_LINE_LEN, Server, Stop, ToolError, serve_lines};
@@ -141,8 +143,8 @@ impl Judge {
         writer: &mut W,
     ) -> Result<bool, ToolError>
         ensures { Spec.Tells (Spec.role_due self.telling id.now line.now role)
-            (Spec.is_clean (drop (length (Spec.role_start role)) line.now)) (Streams.change (W.known writer.old) (W.known writer.new))
-            result }
+            (Spec.is_clean (drop (length (GixSignature.role_start role)) line.now))
+            (Streams.change (W.known writer.old) (W.known writer.new)) result }
     {
         let text = after(line, role.start().len());
         let fault = fault_of(text);

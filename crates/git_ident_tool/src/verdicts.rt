@@ -2,9 +2,10 @@
 ghost use Rattle.std.specs.Prelude.{◌≡◌, ◌++◌, IfOk, OnOk};
 ghost use Rattle.std.specs.List.{find};
 ghost use Rattle.git_ident_tool.specs as Spec;
+ghost use Rattle.gix_signature.specs as GixSignature;
 
 use crate::header::Kind;
-use gix_signature::{FsckId, fsck_of};
+use gix_signature::{FsckId, Role, fsck_of};
 use std::alloc::{AllocError, Global};
 
 /// Which lines are told of.
@@ -16,35 +17,14 @@ pub enum Telling {
     All,
 }
 
-/// Whom an identity line names.
-#[derive(Debug, Clone, Copy, PartialEq, Eq)]
-pub(crate) enum Role {
-    Author,
-    Committer,
-    Tagger,
-}
-
-impl Role {
-    /// How a line of a header begins that names it.
-    pub(crate) fn start(self) -> &'static [u8]
-        ensures { result.now ≡ Spec.role_start self }
-    {
-        match self {
-            Role::Author => b"author ",
-            Role::Committer => b"committer ",
-            Role::Tagger => b"tagger ",
-        }
-    }
-
-    /// What it is called.
-    fn name(self) -> &'static [u8]
-        ensures { result.now ≡ Spec.role_words self }
-    {
-        match self {
-            Role::Author => b"author",
-            Role::Committer => b"committer",
-            Role::Tagger => b"tagger",
-        }
+/// What a role is called.
+fn role_name(role: Role) -> &'static [u8]
+    ensures { result.now ≡ Spec.role_words role }
+{
+    match role {
+        Role::Author => b"author",
+        Role::Committer => b"committer",
+        Role::Tagger => b"tagger",
     }
 }
 
@@ -73,7 +53,7 @@ pub(crate) fn role_in(kind: Kind, line: &[u8]) -> Option<Role>
 
 /// The first of these roles that a line has.
 fn role_among(line: &[u8], roles: &[Role]) -> Option<Role>
-    ensures { result ≡ find (λ role. Spec.begins line.now (Spec.role_start role)) roles.now }
+    ensures { result ≡ find (λ role. Spec.begins line.now (GixSignature.role_start role)) roles.now }
 {
     roles
         .iter()
@@ -143,7 +123,7 @@ pub(crate) fn object_reply(
     let mut reply = Vec::new(alloc);
     reply.extend_from_slice(id)?;
     reply.extend_from_slice(b" ")?;
-    reply.extend_from_slice(role.name())?;
+    reply.extend_from_slice(role_name(role))?;
     reply.extend_from_slice(b" ")?;
     push_verdict(&mut reply, fault, text)?;
     Ok(reply)

@@ -142,7 +142,8 @@ unfoldable pub use Relative.Words.{unit_of, unit_or_seconds, is_ago, PeriodUnit}
 unfoldable pub use Text.Characters.{newline, space, plus, comma, minus, dot, digit_zero, colon, at_sign, letter_s, letter_t}
 unfoldable pub use Text.Characters.{letter_z, underscore, small_s, is_space, is_dot, is_colon, has_colon}
 unfoldable pub use Text.Front.{ReadFront, read_view, ◌>>=◌, skip_char}
-unfoldable pub use Text.LongNames.{begins, least, is_short, long_day_names, month_told, weekday_told, tells, month_by, weekday_by}
+unfoldable pub use Text.LongNames.{begins, least, is_short, long_day_names, month_of_word, weekday_of_word, tells, month_by}
+unfoldable pub use Text.LongNames.{weekday_by}
 unfoldable pub use Text.Names.{is_name, named_in, value_named, name_row, day_names, month_names, day_name, month_name}
 unfoldable pub use Text.Names.{whole_day_names, whole_month_names, whole_day_name, whole_month_name, number_names}
 unfoldable pub use Text.Numbers.{decimal_text, two_digits, fits_i64, is_int_text, int_value, two_digit_value, IsPairAt}

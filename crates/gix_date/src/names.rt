@@ -2,7 +2,7 @@
 //!
 //! Dates show the first three letters of a name ([`month_name`], [`day_name`]) or the whole ([`whole_month_name`],
 //! [`whole_day_name`]). A word tells a name by its first three letters or
-//! more, in any letter case ([`month_told`], [`weekday_told`]). No call takes memory.
+//! more, in any letter case ([`month_of_word`], [`weekday_of_word`]). No call takes memory.
 ghost use Rattle.std.specs.Prelude.{◌≡◌, ◌<◌, ◌≤◌, length, map, option_map, if◌then◌else◌, Some, None, IfSome};
 ghost use Rattle.std.specs.List.{find};
 ghost use Rattle.std.specs.Str.{bytes_eq};
@@ -161,8 +161,8 @@ fn month_by(u: u8, v: u8, w: u8, end: &[u8]) -> Option<u8>
 /// The month, from 1, that a word tells by the first three letters of its name or more, in any letter case: `Aug`, `august`, `AUGU`.
 #[tactic(auto, using(crate::proofs::Text::LongNames::no_month, crate::proofs::Text::LongNames::month_found, crate::proofs::Text::LongNames::month_in_range))]
 #[inline(always)]
-pub fn month_told(word: &[u8]) -> Option<u8>
-    ensures value { result ≡ Spec.month_told word.now }
+pub fn month_of_word(word: &[u8]) -> Option<u8>
+    ensures value { result ≡ Spec.month_of_word word.now }
     ensures small { IfSome result (λ month. IsInRange 1 12 month) }
 {
     match word {
@@ -197,8 +197,8 @@ fn weekday_by(u: u8, v: u8, w: u8, end: &[u8]) -> Option<u8>
 /// `Fri`, `friday`, and as Git's names end in `s`, `Fridays`.
 #[tactic(auto, using(crate::proofs::Text::LongNames::no_weekday, crate::proofs::Text::LongNames::weekday_found, crate::proofs::Text::LongNames::weekday_in_range))]
 #[inline(always)]
-pub fn weekday_told(word: &[u8]) -> Option<u8>
-    ensures value { result ≡ Spec.weekday_told word.now }
+pub fn weekday_of_word(word: &[u8]) -> Option<u8>
+    ensures value { result ≡ Spec.weekday_of_word word.now }
     ensures small { IfSome result (λ weekday. weekday < 7) }
 {
     match word {

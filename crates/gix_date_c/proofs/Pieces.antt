@@ -33,23 +33,24 @@ three_put a b c old one two new i j is_one is_i is_two is_j is_new =
     piece-after (a ++ b) c old two new j at_j second is_new ∙ ap (λ path. with_text path old) (append_assoc a b c)
 
 -- the pieces of a line
-pub line_put : (name mail time old one two three four new : List ℕ) (i j k n : ℕ) → one ≡ take 0 old ++ (name ++ drop (0 + length name) old)
+pub line_put : (name email time old one two three four new : List ℕ) (i j k n : ℕ)
+    → one ≡ take 0 old ++ (name ++ drop (0 + length name) old)
     → i ≡ 0 + length name
     → two ≡ take i one ++ (codes " <" ++ drop (i + length (codes " <")) one) → j ≡ i + length (codes " <")
-    → three ≡ take j two ++ (mail ++ drop (j + length mail) two) → k ≡ j + length mail
+    → three ≡ take j two ++ (email ++ drop (j + length email) two) → k ≡ j + length email
     → four ≡ take k three ++ (codes "> " ++ drop (k + length (codes "> ")) three) → n ≡ k + length (codes "> ")
     → new ≡ take n four ++ (time ++ drop (n + length time) four)
-    → new ≡ with_text (name ++ (codes " <" ++ (mail ++ (codes "> " ++ time)))) old
-line_put name mail time old one two three four new i j k n is_one is_i is_two is_j is_three is_k is_four is_n is_new =
+    → new ≡ with_text (name ++ (codes " <" ++ (email ++ (codes "> " ++ time)))) old
+line_put name email time old one two three four new i j k n is_one is_i is_two is_j is_three is_k is_four is_n is_new =
     let first : one ≡ with_text name old = piece-after [] name old old one 0 refl refl is_one in
     let at_i : i ≡ length name = is_i ∙ zero-add (length name) in
     let second = piece-after name (codes " <") old one two i at_i first is_two in
     let at_j : j ≡ length (name ++ codes " <") = is_j ∙ ap (λ n. n + 2) at_i ∙ sym (length-append name (codes " <")) in
-    let third = piece-after (name ++ codes " <") mail old two three j at_j second is_three in
-    let at_k : k ≡ length ((name ++ codes " <") ++ mail) = is_k ∙ ap (λ n. n + length mail) at_j
-    ∙ sym (length-append (name ++ codes " <") mail) in
-    let fourth = piece-after ((name ++ codes " <") ++ mail) (codes "> ") old three four k at_k third is_four in
-    let at_n : n ≡ length (((name ++ codes " <") ++ mail) ++ codes "> ") =
-    is_n ∙ ap (λ n. n + 2) at_k ∙ sym (length-append ((name ++ codes " <") ++ mail) (codes "> ")) in
-    piece-after (((name ++ codes " <") ++ mail) ++ codes "> ") time old four new n at_n fourth is_new
-    ∙ ap (λ line. with_text line old) (five-pieces name (codes " <") mail (codes "> ") time)
+    let third = piece-after (name ++ codes " <") email old two three j at_j second is_three in
+    let at_k : k ≡ length ((name ++ codes " <") ++ email) = is_k ∙ ap (λ n. n + length email) at_j
+    ∙ sym (length-append (name ++ codes " <") email) in
+    let fourth = piece-after ((name ++ codes " <") ++ email) (codes "> ") old three four k at_k third is_four in
+    let at_n : n ≡ length (((name ++ codes " <") ++ email) ++ codes "> ") =
+    is_n ∙ ap (λ n. n + 2) at_k ∙ sym (length-append ((name ++ codes " <") ++ email) (codes "> ")) in
+    piece-after (((name ++ codes " <") ++ email) ++ codes "> ") time old four new n at_n fourth is_new
+    ∙ ap (λ line. with_text line old) (five-pieces name (codes " <") email (codes "> ") time)

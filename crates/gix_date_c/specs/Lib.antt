@@ -25,13 +25,18 @@ unfoldable pub use Git.Modes.{kinds, kind_numbered, kind_number, local_of, mode_
 unfoldable pub use Git.Modes.{shown_answer, shown_at, IsShownIn}
 unfoldable pub use Git.Own.{own_status, own_answer, own_shown_at, IsOwnShownIn}
 unfoldable pub use Handles.{held_owns, held_shown, kind_of}
-unfoldable pub use Idents.{span_at, seconds_written, offset_written, git_time_for_c, load_git_time, time_shown, ident_for_c}
-unfoldable pub use Idents.{ident_answer, message_number, fsck_number, fsck_place, ident_status, ident_time_answer}
-unfoldable pub use Idents.{ident_line_answer}
-unfoldable pub use Laws.{HasMomentsOf, HasPlacesOf, AreCopiesNamed, time_at, HoldsLine, LinesAreTexts}
+unfoldable pub use Idents.{span_at, seconds_written, offset_written, git_time_for_c, load_git_time, time_shown, rest_at}
+unfoldable pub use Idents.{ident_for_c, ident_answer, message_number, fsck_number, fsck_place, ident_status, ident_time_answer}
+unfoldable pub use Idents.{ident_line_answer, as_is_answer}
+unfoldable pub use Laws.{HasMomentsOf, HasPlacesOf, AreCopiesNamed, time_at, HoldsLine, LinesAreTexts, PartsStand}
+unfoldable pub use Laws.{IdentLinesAreTold}
+pub use Laws.{HoldsIdent}
 pub use Lines.Blocks.{AreFirstLines, DoesLines, ChecksLines}
 unfoldable pub use Lines.Columns.{room_of, changed, seconds_after, offset_after, status_after, columns_after, with_answer}
 pub use Lines.Columns.{Columns}
+unfoldable pub use Lines.Idents.{lesser_room, ident_room, placed_lines, span_in_block, parts_in_block, answer_in_block}
+unfoldable pub use Lines.Idents.{ident_in_block, shown_seconds_after, shown_offset_after, idents_after, with_ident}
+pub use Lines.Idents.{IdentColumns, FitsInBlock, TellsIdents}
 unfoldable pub use Lines.Readers.{Moment, line_reader, for_c, IsDate, IsCareful, time_of, IsExactLine, IsApproximateLine}
 unfoldable pub use Lines.Readers.{IsLineRead}
 unfoldable pub use Moments.{Place, nanos_in, is_part, has_instant, nanos_of, placed, place_of, IsPlaced, IsNow, offset_at}

@@ -2,3 +2,4 @@
 pub mod Columns
 pub mod Blocks
 pub mod Readers
+pub mod Idents

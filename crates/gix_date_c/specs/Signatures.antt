@@ -21,13 +21,13 @@ IsCutAnswer line (Err NoSignature) = (is_utf8 line ≡ true) × HasNoCut line
 IsCutAnswer line (Err NotText) = is_utf8 line ≡ false
 IsCutAnswer line (Err _) = ⊥
 
--- where the parts of a line stand: the name first, the mail after ` <`, the time after `> `
+-- where the parts of a line stand: the name first, the email after ` <`, the time after `> `
 abbrev pub spans_of : Parts → CSignature
 spans_of p =
     record {
       name = record { start = 0; len = length p.name };
-      mail = record { start = length p.name + 2; len = length p.mail };
-      time = record { start = length p.name + 2 + length p.mail + 2; len = length p.time };
+      email = record { start = length p.name + 2; len = length p.email };
+      time = record { start = length p.name + 2 + length p.email + 2; len = length p.time };
     }
 
 -- `Stores` of where the parts of a line stand
@@ -40,17 +40,17 @@ line_status refusals.BadPart = BadPart
 line_status refusals.OffsetTooWide = OffsetTooWide
 line_status (refusals.Write _) = NoRoom
 
--- the line of a name, a mail and a time
+-- the line of a name, an email and a time
 abbrev pub line_answer : List ℕ → List ℕ → Time → Result (List ℕ) Status
-line_answer name mail t =
-    if is_utf8 name && is_utf8 mail
-    then result_map_both (λ line. line) line_status (line_due name mail t) else Err NotText
+line_answer name email t =
+    if is_utf8 name && is_utf8 email
+    then result_map_both (λ line. line) line_status (line_due name email t) else Err NotText
 
--- what stands of a name or a mail in a line: all of it, or the bytes that Git keeps
+-- what stands of a name or an email in a line: all of it, or the bytes that Git keeps
 abbrev pub part_put : Bool → List ℕ → List ℕ
 part_put is_whole part = if is_whole then part else filter is_kept part
 
 -- the line of pieces
 abbrev pub line_of_pieces : Pieces → List ℕ
 line_of_pieces p =
-    line_of (record { name = part_put p.is_whole p.name.now; mail = part_put p.is_whole p.mail.now; time = p.time.now })
+    line_of (record { name = part_put p.is_whole p.name.now; email = part_put p.is_whole p.email.now; time = p.time.now })

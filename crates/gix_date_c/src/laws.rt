@@ -30,3 +30,10 @@ fn copied_zone(text: &[u8], zone: &CZone, shown: &ShownZone)
 fn lines_are_texts(reader: &LineReader<'_>)
     ensures { Spec.LinesAreTexts reader.now }
 {}
+
+/// After a call for identity lines the cells of each line hold what the calls for one line tell of it, and its parts have their places
+/// in the block.
+#[tactic(auto, using(crate::proofs::Blocks::Told::ident_lines_are_told))]
+fn ident_lines_are_told()
+    ensures { Spec.IdentLinesAreTold }
+{}

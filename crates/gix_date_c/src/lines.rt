@@ -6,6 +6,7 @@ ghost use Rattle.gix_date_c.specs as Spec;
 ghost use Rattle.streams.specs as Streams;
 
 mod columns;
+mod idents;
 pub(crate) mod reader;
 
 use crate::careful::CCarefulOptions;

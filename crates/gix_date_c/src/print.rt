@@ -16,8 +16,8 @@ use crate::values::text::utf8_text;
 use crate::values::time::{CTime, load_time};
 use crate::zone::ShownZone;
 use git_date::{
-    BriefText, DateFormat, FormatFault, ShortText, ShowError, brief_by_own_clock, short_by_format,
-    text_by_format_in,
+    BriefText, DateFormat, FormatFault, ShortText, ShowError, text_by_format_brief,
+    text_by_format_in_zone, text_by_format_short,
 };
 use gix_date::time::format::{Format, format_numbered};
 use gix_date::{Error, Time};
@@ -251,7 +251,7 @@ fn is_own_brief(time: Time, format: &[u8], local: u8, brief: &mut BriefText) -> 
         return false;
     }
     match utf8_text(format) {
-        Ok(text) => brief_by_own_clock(time, text, brief),
+        Ok(text) => text_by_format_brief(time, text, brief),
         Err(_) => false,
     }
 }
@@ -289,7 +289,7 @@ fn is_short(
         → Spec.IsByFormat time (plain_zone zone.entry) (Some local) (Spec.checked_bytes format.now) (Ok short.new.bytes) }
 {
     match utf8_text(format) {
-        Ok(text) => short_by_format(time, text, local, zone, short),
+        Ok(text) => text_by_format_short(time, text, local, zone, short),
         Err(_) => false,
     }
 }
@@ -306,7 +306,7 @@ fn long_by_format(
         (result_map_both string_bytes (λ refusal. refusal) result) }
 {
     let format = checked_bytes(format)?;
-    match text_by_format_in(alloc, time, format, local, zone) {
+    match text_by_format_in_zone(alloc, time, format, local, zone) {
         Ok(text) => Ok(text),
         Err(ShowError::Range) => Err(Refusal::of(Status::GitRange)),
         Err(ShowError::Memory) => Err(Refusal::of(Status::Memory)),

@@ -28,7 +28,7 @@ pub struct CSpan {
 #[derive(Clone, Copy)]
 pub struct CSignature {
     pub name: CSpan,
-    pub mail: CSpan,
+    pub email: CSpan,
     pub time: CSpan,
 }
 
@@ -57,11 +57,11 @@ fn spans_of(signature: SignatureRef<'_>) -> CSignature
     requires { length (GixSignature.line_of (GixSignature.parts_of signature)) < 2 ^ 64 }
     ensures { result ≡ Spec.spans_of (GixSignature.parts_of signature.entry) }
 {
-    let mail = signature.name.len() + " <".len();
-    let time = mail + signature.mail.len() + "> ".len();
+    let email = signature.name.len() + " <".len();
+    let time = email + signature.email.len() + "> ".len();
     CSignature {
         name: span(0, signature.name),
-        mail: span(mail, signature.mail),
+        email: span(email, signature.email),
         time: span(time, signature.time),
     }
 }
@@ -79,15 +79,16 @@ fn span(start: usize, part: &str) -> CSpan
 #[unsafe(no_mangle)]
 pub extern "C" fn gix_date_write_signature(
     name: &[u8],
-    mail: &[u8],
+    email: &[u8],
     time: &CTime,
     out: &mut [u8],
     len: &mut usize,
 ) -> u32
-    ensures { Spec.outcome out.new len.new result ≡ Spec.outcome_of (Spec.line_answer name.now mail.now (Spec.load_time time.now)) out.old }
+    ensures { Spec.outcome out.new len.new result
+        ≡ Spec.outcome_of (Spec.line_answer name.now email.now (Spec.load_time time.now)) out.old }
 {
     let mut buf = TimeBuf::default();
-    store_line(pieces_of(name, mail, load_time(time), &mut buf), out, len)
+    store_line(pieces_of(name, email, load_time(time), &mut buf), out, len)
 }
 
 /// A sink that takes all and keeps nothing.
@@ -105,41 +106,50 @@ impl Sink for Nowhere {
 /// The pieces of the line of a name, an email and a time.
 fn pieces_of<'a>(
     name: &'a [u8],
-    mail: &'a [u8],
+    email: &'a [u8],
     time: Time,
     buf: &'a mut TimeBuf,
 ) -> Result<Pieces<'a>, Status>
-    ensures { result_map_both Spec.line_of_pieces (λ status. status) result ≡ Spec.line_answer name.now mail.now time }
+    ensures { result_map_both Spec.line_of_pieces (λ status. status) result ≡ Spec.line_answer name.now email.now time }
 {
-    may_write(utf8_text(name)?, utf8_text(mail)?, time)?;
+    may_write(utf8_text(name)?, utf8_text(email)?, time)?;
     let text = time.to_buf().ok().ok_or(Status::OffsetTooWide)?;
     *buf = text;
     Ok(Pieces {
         name,
-        mail,
+        email,
         time: buf.as_str(),
         is_whole: true,
     })
 }
 
 /// Whether these have a line, which [`write_line`] tells.
-fn may_write(name: &str, mail: &str, time: Time) -> Result<(), Status>
-    ensures { result ≡ result_map_both (λ line. tt) Spec.line_status (GixSignature.line_due name.now mail.now time) }
+fn may_write(name: &str, email: &str, time: Time) -> Result<(), Status>
+    ensures { result ≡ result_map_both (λ line. tt) Spec.line_status (GixSignature.line_due name.now email.now time) }
 {
-    match write_line(name, mail, time, &mut Nowhere) {
+    match write_line(name, email, time, &mut Nowhere) {
         Ok(()) => Ok(()),
-        Err(SignatureError::BadPart) => Err(Status::BadPart),
-        Err(SignatureError::OffsetTooWide) => Err(Status::OffsetTooWide),
-        Err(SignatureError::Write(_)) => unreachable!(),
+        Err(error) => Err(line_status(error)),
     }
 }
 
-/// The pieces of a line: a name, a mail and the text of a time. The name and the mail stand in the line as they are, or
+/// The status of a refusal to write a line. A buffer that is written to has no fault but its end.
+pub(crate) fn line_status(error: SignatureError) -> Status
+    ensures { result ≡ Spec.line_status error }
+{
+    match error {
+        SignatureError::BadPart => Status::BadPart,
+        SignatureError::OffsetTooWide => Status::OffsetTooWide,
+        SignatureError::Write(_) => Status::NoRoom,
+    }
+}
+
+/// The pieces of a line: a name, an email and the text of a time. The name and the email stand in the line as they are, or
 /// without the bytes that [`is_kept`] refuses.
 #[derive(Clone, Copy)]
 pub(crate) struct Pieces<'a> {
     pub(crate) name: &'a [u8],
-    pub(crate) mail: &'a [u8],
+    pub(crate) email: &'a [u8],
     pub(crate) time: &'a str,
     pub(crate) is_whole: bool,
 }
@@ -172,9 +182,9 @@ fn put_line(line: Pieces<'_>, out: &mut [u8]) -> Status
         return Status::NoRoom;
     }
     let after_name = put_part(out, 0, line.name, line.is_whole);
-    let mail = put_at(out, after_name, " <");
-    let after_mail = put_part(out, mail, line.mail, line.is_whole);
-    let time = put_at(out, after_mail, "> ");
+    let email = put_at(out, after_name, " <");
+    let after_email = put_part(out, email, line.email, line.is_whole);
+    let time = put_at(out, after_email, "> ");
     put_at(out, time, line.time);
     Status::Done
 }
@@ -185,7 +195,7 @@ fn line_len(line: Pieces<'_>) -> usize
 {
     part_len(line.name, line.is_whole)
         .saturating_add(" <".len())
-        .saturating_add(part_len(line.mail, line.is_whole))
+        .saturating_add(part_len(line.email, line.is_whole))
         .saturating_add("> ".len())
         .saturating_add(line.time.len())
 }

@@ -14,7 +14,7 @@ pub(crate) use crate::handle::ShownZone;
 use crate::values::status::Status;
 pub(crate) use crate::zone::held::Held;
 pub(crate) use crate::zone::stored::CZone;
-use git_date::zone_offset;
+use git_date::parse_offset;
 use std::alloc::Global;
 
 /// A zone out of C's hands.
@@ -66,7 +66,7 @@ pub extern "C" fn gix_date_zone_copy(alloc: Global, from: &ShownZone, zone: &mut
 fn kept(alloc: Global, text: &[u8]) -> Result<TakenZone, Status>
     ensures { Spec.IsKept (GitDate.zone_offset text.now) text.now result }
 {
-    match zone_offset(text) {
+    match parse_offset(text) {
         Some(offset) => Ok(TakenZone { offset, held: None }),
         None => kept_held(alloc, text),
     }

@@ -2,14 +2,14 @@
 ghost use Rattle.std.specs.Prelude.{◌≡◌, Ok, Err, IfOk, IfErr, drop, option_map};
 ghost use Rattle.git_date.specs as GitDate;
 
-use git_date::{DateError, ReadDate, parse_date};
+use git_date::{DateError, ExactDate, parse_date};
 use gix_date::Zoned;
 
 /// A date as Git reads it, and the text from the first word on that Git ignores, so that a program can warn of it.
 pub fn date_and_ignored<'a>(
     text: &'a str,
     now: Zoned<'_>,
-) -> Result<(ReadDate, Option<&'a str>), DateError>
+) -> Result<(ExactDate, Option<&'a str>), DateError>
     ensures date { IfOk result (λ found. GitDate.DateOutcome now.entry text.now (Ok found.0)) }
     ensures rest { IfOk result (λ found. option_map (λ rest. rest.now) found.1
         ≡ option_map (λ place. drop place text.now) found.0.ignored) }

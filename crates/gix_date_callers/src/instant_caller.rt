@@ -2,7 +2,7 @@
 ghost use Rattle.std.specs.Prelude.{◌≡◌, Result, Ok, option_map};
 ghost use Rattle.std.specs.Result.{result_map_both};
 ghost use Rattle.jiff.specs.Words.{plain_zone};
-ghost use Rattle.git_date.specs.declared.reader.ReadDate.{ReadDate as Read};
+ghost use Rattle.git_date.specs.declared.reader.ExactDate.{ExactDate as Read};
 ghost use Rattle.git_date.specs.declared.error.DateError.{DateError as Refusal};
 ghost use Rattle.git_date.specs as GitDate;
 

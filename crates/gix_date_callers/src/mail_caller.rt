@@ -1,6 +1,6 @@
 //! A caller of `git_date` that reads the date of a mail.
 ghost use Rattle.std.specs.Prelude.{◌≡◌, ◌++◌, ℕ, List, Ok, Err, IfSome, IfNone, codes};
-ghost use Rattle.git_date.specs.declared.reader.ReadDate.{ReadDate as Read};
+ghost use Rattle.git_date.specs.declared.reader.ExactDate.{ExactDate as Read};
 ghost use Rattle.git_date.specs.declared.error.DateError.{DateError as Refusal};
 ghost use Rattle.git_date.specs as GitDate;
 

@@ -1,6 +1,7 @@
 //! More callers of `gix_date`: docs/CALLING.md says what each is for.
 ghost use Rattle.std.specs.Prelude.{◌≡◌, ◌≢◌, ◌↔◌, ◌⊎◌, ◌<◌, ◌-ℤ◌, pos, true, false, IsTrue, IsSome, Some, None, Err, Ok, IfSome, IfNone};
-ghost use Rattle.std.specs.Prelude.{IsOk, IsOkAnd, IsSomeAnd, IfOk, MatchResult, option_map, replicate, string_bytes, unwrap_or, ℤ, Option};
+ghost use Rattle.std.specs.Prelude.{IsOk, IsOkAnd, IsSomeAnd, IfOk, MatchResult, option_map, replicate, string_bytes, unwrap_or, int_lt, ℤ};
+ghost use Rattle.std.specs.Prelude.{Option};
 ghost use Rattle.std.specs.Str.{IsUtf8};
 ghost use Rattle.gix_date.specs.Families.Answer.{Relative};
 ghost use Rattle.gix_date.specs.declared.error.Error.TheVariants.{Memory, OffsetTooWide, Range};
@@ -14,7 +15,7 @@ ghost use Rattle.gix_date.specs as GixDate;
 use crate::caller::date_typed;
 use gix_date::bytes::text_of;
 use gix_date::device::Device;
-use gix_date::names::{month_name, month_told};
+use gix_date::names::{month_name, month_of_word};
 use gix_date::parsing::TimeBuf;
 use gix_date::time::format::{
     DEFAULT, GIT_RFC2822, GITOXIDE, ISO8601, ISO8601_STRICT, RFC2822, UNIX,
@@ -51,9 +52,9 @@ pub fn header_in_bytes(header: &[u8]) -> Option<Time>
 
 /// The month that a word tells, by the three letters that dates show: `Aug` for `august`.
 pub fn short_month(word: &[u8]) -> Option<&'static str>
-    ensures { option_map (λ name. name.now) result ≡ option_map GixDate.month_name (GixDate.month_told word.now) }
+    ensures { option_map (λ name. name.now) result ≡ option_map GixDate.month_name (GixDate.month_of_word word.now) }
 {
-    match month_told(word) {
+    match month_of_word(word) {
         Some(month) => Some(month_name(month)),
         None => None,
     }
@@ -228,6 +229,33 @@ pub fn day_before(alloc: Global, time: Time) -> Result<Time, Error>
 {
     gix_date_laws::earlier(time, &[]);
     date_typed(alloc, "yesterday", time)
+}
+
+/// The time two weeks before this one, at its offset: what `2 weeks ago` names there, or `Range` where that has no instant.
+pub fn two_weeks_before(alloc: Global, time: Time) -> Result<Time, Error>
+    requires { GixDate.IsConvertible time }
+    ensures { MatchResult result (λ t. t ≡ GixDate.earlier time (pos 1_209_600)) (λ e. e ≡ Range) }
+{
+    gix_date_laws::earlier(time, &[(2, 604_800)]);
+    date_typed(alloc, "2 weeks ago", time)
+}
+
+/// Whether the time of a commit's header is older than two weeks, in seconds; `None` where the header has no time.
+pub fn is_older_than_two_weeks(
+    alloc: Global,
+    header: &str,
+    now: Time,
+) -> Result<Option<bool>, Error>
+    requires { GixDate.IsConvertible now }
+    ensures { MatchResult result
+        (λ older. older ≡ option_map (λ t. int_lt t.seconds (now.seconds -ℤ pos 1_209_600)) (GixDate.header_time header.now))
+        (λ e. e ≡ Range) }
+{
+    let limit = two_weeks_before(alloc, now)?;
+    match parse_header(header) {
+        Some(time) => Ok(Some(time.seconds < limit.seconds)),
+        None => Ok(None),
+    }
 }
 
 /// What `yesterday` names at a moment in any zone: the time 86400 seconds before, or `Range` where `jiff` has no such instant.

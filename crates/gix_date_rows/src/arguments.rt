@@ -59,7 +59,7 @@ impl<'a> Arguments<'a> {
     pub(crate) fn git_time(&mut self) -> Option<GitTime> {
         let seconds = self.text()?.parse().ok()?;
         let offset = self.text()?.parse().ok()?;
-        Some(GitTime { seconds, offset })
+        Some(GitTime::new(seconds, offset))
     }
 
     /// An instant: its seconds and its nanoseconds.

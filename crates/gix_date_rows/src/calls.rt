@@ -24,16 +24,17 @@
 //! | `show_by_format` | Git's format, `own` or `local`, moment, seconds, offset | text |
 //! | `format` | format, seconds, offset | text |
 //! | `format_by_pattern` | pattern, seconds, offset | text |
-//! | `cut_signature` | line | name, `<`, mail, `>` and time |
+//! | `cut_signature` | line | name, `<`, email, `>` and time |
 //! | `signature_time` | line | time |
-//! | `write_signature` | name, mail, seconds, offset | line |
-//! | `ident` | line | name, `<`, mail, `>`, and the date's seconds as they are written |
-//! | `ident_label` | line | name, ` <`, mail and `>` |
+//! | `write_signature` | name, email, seconds, offset | line |
+//! | `ident` | line | name, `<`, email, `>`, and the date's seconds as they are written |
+//! | `ident_label` | line | name, ` <`, email and `>` |
+//! | `ident_again` | line | the line that is written of what Git shows, if the same comes back |
 //! | `ident_offset` | line | offset as it is written |
 //! | `git_time` | line | seconds and offset that Git shows |
 //! | `ident_time` | line | time |
 //! | `fsck_of` | line | ID of the message of `git fsck`, or `none` |
-//! | `write_ident` | name, mail, seconds, offset | line |
+//! | `write_ident` | name, email, seconds, offset | line |
 //!
 //! - A refusal is its name after `!`, and its place after a space if it has one: `!Range`, `!Unclear 3`. A text that begins with
 //!   `!` is written `\x21..`.
@@ -51,7 +52,8 @@ use crate::approximate::{expires, guessed, passed_over};
 use crate::arguments::Arguments;
 use crate::formats::shown_by_format;
 use crate::idents::{
-    fsck_word, shown_label, shown_parts, shown_time, stored_offset, time_of, written_line,
+    fsck_word, shown_label, shown_parts, shown_time, stored_offset, time_of, written_again,
+    written_line,
 };
 use crate::moments::{
     ignored_place, names_offset, parsed, parsed_carefully, read_date, shown_date, shown_git_time,
@@ -90,18 +92,19 @@ fn line(alloc: Global, call: &str, row: &mut Arguments<'_>) -> Option<Answer> {
         "cut_signature" => Some(cut(alloc, row.text()?)),
         "signature_time" => Some(signature_time(row.text()?)),
         "write_signature" => {
-            let (name, mail) = (row.text()?, row.text()?);
-            Some(signature_line(alloc, name, mail, row.time()?))
+            let (name, email) = (row.text()?, row.text()?);
+            Some(signature_line(alloc, name, email, row.time()?))
         }
         "ident" => Some(shown_parts(alloc, row.bytes()?)),
         "ident_label" => Some(shown_label(alloc, row.bytes()?)),
+        "ident_again" => Some(written_again(alloc, row.bytes()?)),
         "ident_offset" => Some(stored_offset(alloc, row.bytes()?)),
         "git_time" => Some(shown_time(alloc, row.bytes()?)),
         "ident_time" => Some(time_of(row.bytes()?)),
         "fsck_of" => Some(fsck_word(row.bytes()?)),
         "write_ident" => {
-            let (name, mail) = (row.bytes()?, row.bytes()?);
-            Some(written_line(alloc, name, mail, row.time()?))
+            let (name, email) = (row.bytes()?, row.bytes()?);
+            Some(written_line(alloc, name, email, row.time()?))
         }
         _ => None,
     }
@@ -325,8 +328,8 @@ fn has_four_digit_fields(time: Time) -> bool {
 /// The name, the email and the time of a line, with the brackets between them.
 fn cut(alloc: Global, line: &str) -> Answer {
     match SignatureRef::from_line(line) {
-        Some(SignatureRef { name, mail, time }) => {
-            let text: Result<String, AllocError> = format!(in alloc; "{name}<{mail}>{time}");
+        Some(SignatureRef { name, email, time }) => {
+            let text: Result<String, AllocError> = format!(in alloc; "{name}<{email}>{time}");
             text.into()
         }
         None => Answer::Refused("NoSignature"),
@@ -342,9 +345,9 @@ fn signature_time(line: &str) -> Answer {
 }
 
 /// The line that is written of these parts. Where they are refused, nothing may be written.
-fn signature_line(alloc: Global, name: &str, mail: &str, time: Time) -> Answer {
+fn signature_line(alloc: Global, name: &str, email: &str, time: Time) -> Answer {
     let mut out = Device::new(Vec::new(alloc));
-    let written = write_line(name, mail, time, &mut out);
+    let written = write_line(name, email, time, &mut out);
     let bytes = out.into_inner();
     match written {
         Ok(()) => match String::from_utf8(bytes) {

@@ -2,7 +2,9 @@
 use crate::answer::Answer;
 use gix_date::Time;
 use gix_date::device::Device;
-use gix_signature::{DateParts, FsckId, GitTime, IdentRef, fsck_of, write_ident};
+use gix_signature::{
+    DateParts, FsckId, GitTime, IdentRef, fsck_of, write_ident, write_ident_as_is,
+};
 use std::alloc::{AllocError, Global};
 
 const NO_IDENTITY: Answer = Answer::Refused("NoIdentity");
@@ -27,21 +29,21 @@ fn pushed(alloc: Global, pieces: &[&[u8]]) -> Result<Vec<u8>, AllocError> {
     Ok(bytes)
 }
 
-/// The name, the mail and the seconds that Git shows of a line.
+/// The name, the email and the seconds that Git shows of a line.
 pub(crate) fn shown_parts(alloc: Global, line: &[u8]) -> Answer {
     match IdentRef::from_bytes(line) {
-        Some(IdentRef { name, mail, date }) => {
+        Some(IdentRef { name, email, date }) => {
             let seconds = date.map_or(b"".as_slice(), |date| date.seconds);
-            joined(alloc, &[name, b"<", mail, b">", seconds])
+            joined(alloc, &[name, b"<", email, b">", seconds])
         }
         None => NO_IDENTITY,
     }
 }
 
-/// The name and the mail that Git shows of a line.
+/// The name and the email that Git shows of a line.
 pub(crate) fn shown_label(alloc: Global, line: &[u8]) -> Answer {
     match IdentRef::from_bytes(line) {
-        Some(ident) => joined(alloc, &[ident.name, b" <", ident.mail, b">"]),
+        Some(ident) => joined(alloc, &[ident.name, b" <", ident.email, b">"]),
         None => NO_IDENTITY,
     }
 }
@@ -51,6 +53,23 @@ fn date_of(line: &[u8]) -> Result<DateParts<'_>, Answer> {
     match IdentRef::from_bytes(line) {
         Some(ident) => ident.date.ok_or(NO_DATE),
         None => Err(NO_IDENTITY),
+    }
+}
+
+/// The line that is written of what Git shows of it, if the same comes back.
+pub(crate) fn written_again(alloc: Global, line: &[u8]) -> Answer {
+    let Some(ident) = IdentRef::from_bytes(line) else {
+        return NO_IDENTITY;
+    };
+    match ident.date {
+        Some(date) if ident.comes_back(line) => {
+            let mut out = Device::new(Vec::new(alloc));
+            match write_ident_as_is(ident.name, ident.email, date.git_time(), &mut out) {
+                Ok(()) => Answer::Bytes(out.into_inner()),
+                Err(_fault) => NO_MEMORY,
+            }
+        }
+        _ => Answer::Refused("NotBack"),
     }
 }
 
@@ -66,7 +85,11 @@ pub(crate) fn stored_offset(alloc: Global, line: &[u8]) -> Answer {
 pub(crate) fn shown_time(alloc: Global, line: &[u8]) -> Answer {
     match date_of(line) {
         Ok(date) => {
-            let GitTime { seconds, offset } = date.git_time();
+            let GitTime {
+                seconds,
+                offset,
+                ..
+            } = date.git_time();
             let text: Result<String, AllocError> = format!(in alloc; "{seconds} {offset:+05}");
             text.into()
         }
@@ -106,9 +129,9 @@ pub(crate) fn fsck_word(line: &[u8]) -> Answer {
 }
 
 /// The line that is written of these parts. Where they are refused, nothing may be written.
-pub(crate) fn written_line(alloc: Global, name: &[u8], mail: &[u8], time: Time) -> Answer {
+pub(crate) fn written_line(alloc: Global, name: &[u8], email: &[u8], time: Time) -> Answer {
     let mut out = Device::new(Vec::new(alloc));
-    let written = write_ident(name, mail, time, &mut out);
+    let written = write_ident(name, email, time, &mut out);
     let bytes = out.into_inner();
     match written {
         Ok(()) => Answer::Bytes(bytes),

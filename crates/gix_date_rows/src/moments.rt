@@ -1,6 +1,6 @@
 //! Dates parsed at no moment, at one, or at any.
 use crate::answer::Answer;
-use git_date::{DateMode, ReadDate, parse_date, show_date, show_git_time};
+use git_date::{DateMode, ExactDate, parse_date, show_date, show_git_time};
 use gix_date::{
     CarefulOptions, Error, ParseError, RawOffsets, Time, Zoned, parse, parse_carefully,
     parse_no_alloc, parse_with,
@@ -76,7 +76,7 @@ pub(crate) fn names_offset(zones: &TimeZoneDatabase, moment: &str, text: &[u8]) 
     })
 }
 
-fn dated(zones: &TimeZoneDatabase, moment: &str, text: &[u8]) -> Option<Result<ReadDate, Answer>> {
+fn dated(zones: &TimeZoneDatabase, moment: &str, text: &[u8]) -> Option<Result<ExactDate, Answer>> {
     match moment_of(zones, moment)? {
         Ok(now) => Some(parse_date(text, now?).map_err(Answer::from)),
         Err(refusal) => Some(Err(Answer::Refused(refusal))),

@@ -120,7 +120,7 @@ fn tell_line<W: Sink>(line: &str, out: &mut W) -> Result<(), ErrorKind> {
     let Some((parts, time)) = dated(line) else {
         return put_all(out, b"none");
     };
-    match write_line(parts.name, parts.mail, time, out) {
+    match write_line(parts.name, parts.email, time, out) {
         Err(SignatureError::Write(kind)) => Err(kind),
         Err(_) => put_all(out, b"no line"),
         Ok(()) => Ok(()),

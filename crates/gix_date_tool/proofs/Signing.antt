@@ -49,8 +49,8 @@ no_time_unsigned text s found cut read none = no-time-unsigned text (parts_of s)
 
 -- what is due of the parts of a line, by what text their time has
 pub due-of : (text : List ℕ) (p : Parts) (t : Time) (o : Option (List ℕ)) → IsCut text p → header_text t ≡ o
-    → line_due p.name p.mail t
-    ≡ ok_or (option_map line_of (option_map (λ x. record { name = p.name; mail = p.mail; time = x }) o)) OffsetTooWide
+    → line_due p.name p.email t
+    ≡ ok_or (option_map line_of (option_map (λ x. record { name = p.name; email = p.email; time = x }) o)) OffsetTooWide
 due-of text p t o cut e = grind (arith, plain, due-is)
 
 -- nor is one whose time has no header text
@@ -61,8 +61,8 @@ wide-unsigned text p t refusal cut read refused line h =
     let wide : header_text t ≡ None = no-text-held t refusal refused in
     let parts = the_cut text h.parts p h.cut.whole cut in
     let times : h.time ≡ t = same-time h.time t (sym h.read ∙ ap (λ (q : Parts). header_time q.time) parts ∙ read) in
-    let dues : line_due h.parts.name h.parts.mail h.time ≡ line_due p.name p.mail t =
-    λ i. line_due (parts i).name (parts i).mail (times i) in
+    let dues : line_due h.parts.name h.parts.email h.time ≡ line_due p.name p.email t =
+    λ i. line_due (parts i).name (parts i).email (times i) in
     let clash : ◌≡◌ {A = Result (List ℕ) SignatureError} (Ok line) (Err OffsetTooWide) = sym h.due ∙ dues ∙ due-of text p t None cut wide in
     absurd cc
 

@@ -19,7 +19,7 @@ use Rattle.gix_date_tool.proofs.Signing.{due-of, same-line}
 time-back : (line : List ℕ) (s : IsSigned line line) (o : Option (List ℕ)) → header_text s.time ≡ o → ComesBack s.parts.time
 time-back line s None e = grind (arith, due-of)
 time-back line s (Some x) e =
-    let p : Parts = record { name = s.parts.name; mail = s.parts.mail; time = x } in
+    let p : Parts = record { name = s.parts.name; email = s.parts.email; time = x } in
     let whole : line ≡ line_of p = same-line line (line_of p) (sym s.due ∙ due-of line s.parts s.time (Some x) s.cut e) in
     let parts : p ≡ s.parts = the_cut line p s.parts whole s.cut in
     record { time = s.time; is_read = s.read; is_written = e ∙ ap (λ (q : Parts). Some q.time) parts }

@@ -7,13 +7,13 @@ use Rattle.gix_date.specs.declared.time.Time.{Time}
 use Rattle.gix_signature.specs.Signature.{Parts, IsCut}
 use Rattle.gix_signature.specs.Writing.{line_due}
 
--- the text has a cut, a time is read from the last part, and of the name, the mail and that time this line is due
+-- the text has a cut, a time is read from the last part, and of the name, the email and that time this line is due
 pub record IsSigned (text line : List ℕ) : Type 0 where
   pub parts : Parts
   pub time : Time
   pub cut : IsCut text parts
   pub read : header_time parts.time ≡ Some time
-  pub due : line_due parts.name parts.mail time ≡ Ok line
+  pub due : line_due parts.name parts.email time ≡ Ok line
 
 -- no line is due: the text has no cut, no time is read from the last part, or that time has no header text
 unfoldable pub IsUnsigned : List ℕ → Type 0

@@ -25,7 +25,7 @@ parse   the date that the line says, as the text of a commit header, or an error
             $ printf '2 days ago\nlast week\n' | gix_date_tool parse '1698400800 +0200'
             1698228000 +0200
             1697796000 +0200
-sign    the line of a commit or tag that says who wrote it and when, written again from its name, mail and time
+sign    the line of a commit or tag that says who wrote it and when, written again from its name, email and time
         (read leniently): a line that Git wrote comes back; `none` where it is no such line
             $ printf 'A U Thor <author@example.com> 1660874655 +0800\nA <a>  12abc\nA <a>\n' | gix_date_tool sign
             A U Thor <author@example.com> 1660874655 +0800

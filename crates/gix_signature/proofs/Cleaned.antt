@@ -1,4 +1,4 @@
--- What Git writes of a name and a mail, and a written or canonical time: such a line passes.
+-- What Git writes of a name and an email, and a written or canonical time: such a line passes.
 use Rattle.std.proofs.lemmas.Grind.{common_steps}
 use Rattle.std.proofs.Common.{◌≡◌, ◌∙◌, ℕ, ◌+◌, ◌*◌, ◌/◌, ◌%◌, ◌<◌, ◌≤ℤ◌, Bool, true, false, cond, not, ◌||◌, ◌==◌, List, [], ◌∷◌, ◌++◌}
 use Rattle.std.proofs.Common.{length, ℤ, pos, negsuc, neg_ℤ, Option, Some, None, Err, IfOk, ok_or, option_map, unsigned_abs, FitsSigned}
@@ -6,7 +6,7 @@ use Rattle.std.proofs.Common.{w64, refl, ap, sym, subst, arith, append_assoc}
 use Rattle.std.proofs.lemmas.Bool.{and_from, and_parts}
 use Rattle.std.proofs.lemmas.Bool.Decides.{nat_tests}
 use Rattle.std.proofs.lemmas.Int.{ints}
-use Rattle.std.proofs.lemmas.List.{take_all, append-nil}
+use Rattle.std.proofs.lemmas.List.{append-nil}
 use Rattle.std.proofs.lemmas.List.Elements.{filter-append}
 use Rattle.std.proofs.lemmas.List.Sums.{list_all-from_AllPass}
 use Rattle.std.proofs.lemmas.Option.{same_Some}
@@ -29,18 +29,14 @@ use Rattle.gix_signature.specs.Ident.Due.{cleaned, ident_due, cleaned_parts}
 use Rattle.gix_signature.specs.Ident.Laws.{PassesAs, WrittenPasses, CanonicalPasses, in_minutes}
 use Rattle.gix_signature.specs.declared.error.IdentFault.TheVariants.{NulInPart, EmptyName, OnlyCrud, BeforeEpoch, OffsetTooWide}
 use Rattle.gix_signature.proofs.Cuts.{ArePlain, plain}
-use Rattle.gix_signature.proofs.Shown.{last-len, end-more}
+use Rattle.gix_signature.proofs.Idents.Shown.{end-more, end-stays}
 use Rattle.gix_signature.proofs.Written.{text-is}
-use Rattle.gix_signature.proofs.Passing.{passes-as}
+use Rattle.gix_signature.proofs.Idents.Passing.{passes-as}
 
 -- A list that grows at its end.
 from-end : (P : List ℕ → Type 0) → ((xs : List ℕ) (c : ℕ) → P xs → P (xs ++ (c ∷ []))) → (front xs : List ℕ) → P front → P (front ++ xs)
 from-end P more front [] h = subst P (sym (append-nil front)) h
 from-end P more front (x ∷ xs) h = subst P (append_assoc front (x ∷ []) xs) (from-end P more (front ++ (x ∷ [])) xs (more front x h))
-
--- what ends with another byte keeps its end
-end-stays : (p : ℕ → Bool) (xs : List ℕ) (c : ℕ) → p c ≡ false → without_end p (xs ++ (c ∷ [])) ≡ xs ++ (c ∷ [])
-end-stays p xs c h = grind (arith, last-len, take_all)
 
 -- no blank and no byte that is left out is other than crud
 no-crud : (c : ℕ) → is_crud c ≡ false → (is_blank c ≡ false) × (is_kept c ≡ true)
@@ -87,13 +83,13 @@ cleaned-part : (part : List ℕ) → list_any is_nul part ≡ false → is_part 
 cleaned-part part h = grind (arith, nat_tests, common_steps, kept-part, list_all-from_AllPass, none-nul)
 
 -- A time from the epoch on.
-dated : (name mail text : List ℕ) (z o : ℤ) → pos 0 ≤ℤ z → FitsSigned w64 z → unsigned_abs o < 360000
+dated : (name email text : List ℕ) (z o : ℤ) → pos 0 ≤ℤ z → FitsSigned w64 z → unsigned_abs o < 360000
     → text ≡ decimal_text z ++ (space ∷ compact_offset_text o)
-    → ArePlain (record { name = name; mail = mail; time = text })
-    → PassesAs (without_end is_blank name) mail (in_minutes (record { seconds = z; offset = o }))
-    (line_of (record { name = name; mail = mail; time = text }))
-dated name mail text (pos n) o from f short whole are = passes-as name mail n o (omega (arith, f.sfits)) short text whole are
-dated name mail text (negsuc n) o from f short whole are = absurd (grind (arith, ints, from))
+    → ArePlain (record { name = name; email = email; time = text })
+    → PassesAs (without_end is_blank name) email (in_minutes (record { seconds = z; offset = o }))
+    (line_of (record { name = name; email = email; time = text }))
+dated name email text (pos n) o from f short whole are = passes-as name email n o (omega (arith, f.sfits)) short text whole are
+dated name email text (negsuc n) o from f short whole are = absurd (grind (arith, ints, from))
 
 -- a header text is read as its time in whole minutes
 minutes-said : (b : Bool) (m : ℕ)
@@ -116,41 +112,41 @@ canonical_passes line p t cut canonical read from =
     let is = text-is r p.time f back.is_written in
     let same : in_minutes r ≡ t = same_Some (in_minutes r) t (sym (ap header_time is.whole ∙ read-in-minutes r f is.short) ∙ read) in
     let start : pos 0 ≤ℤ r.seconds = subst (λ z. pos 0 ≤ℤ z) (sym (ap (λ (t : Time). t.seconds) same)) from in
-    subst (λ l. PassesAs (without_end is_blank p.name) p.mail t l) (sym cut.whole)
-    (subst (λ t. PassesAs (without_end is_blank p.name) p.mail t (line_of p)) same
-    (dated p.name p.mail p.time r.seconds r.offset start f is.short is.whole (plain p cut.allowed)))
+    subst (λ l. PassesAs (without_end is_blank p.name) p.email t l) (sym cut.whole)
+    (subst (λ t. PassesAs (without_end is_blank p.name) p.email t (line_of p)) same
+    (dated p.name p.email p.time r.seconds r.offset start f is.short is.whole (plain p cut.allowed)))
 
 -- What is due is read again.
-module _ (name mail : List ℕ) (t : Time) (f : FitsSigned w64 t.seconds) where
+module _ (name email : List ℕ) (t : Time) (f : FitsSigned w64 t.seconds) where
   abbrev Passes : List ℕ → Type 0
-  Passes line = PassesAs (cleaned name) (cleaned mail) (in_minutes t) line
+  Passes line = PassesAs (cleaned name) (cleaned email) (in_minutes t) line
 
-  due-line : (text : List ℕ) → is_part (cleaned name) ≡ true → is_part (cleaned mail) ≡ true → pos 0 ≤ℤ t.seconds
-      → header_text t ≡ Some text → Passes (line_of (cleaned_parts name mail text))
+  due-line : (text : List ℕ) → is_part (cleaned name) ≡ true → is_part (cleaned email) ≡ true → pos 0 ≤ℤ t.seconds
+      → header_text t ≡ Some text → Passes (line_of (cleaned_parts name email text))
   due-line text a b from h =
       let is = text-is t text f h in
-      let at = dated (cleaned name) (cleaned mail) text t.seconds t.offset from f is.short is.whole
-      (record { name = a; mail = b; time = is.stands }) in
-      subst (λ n. PassesAs n (cleaned mail) (in_minutes t) (line_of (cleaned_parts name mail text))) (cleaned-ends name) at
+      let at = dated (cleaned name) (cleaned email) text t.seconds t.offset from f is.short is.whole
+      (record { name = a; email = b; time = is.stands }) in
+      subst (λ n. PassesAs n (cleaned email) (in_minutes t) (line_of (cleaned_parts name email text))) (cleaned-ends name) at
 
   due-dated : (b : Bool) → int_lt t.seconds (pos 0) ≡ b → (o : Option (List ℕ)) → header_text t ≡ o → is_part (cleaned name) ≡ true
-      → is_part (cleaned mail) ≡ true
-      → IfOk (cond b (Err BeforeEpoch) (ok_or (option_map (λ time. line_of (cleaned_parts name mail time)) o) OffsetTooWide)) Passes
+      → is_part (cleaned email) ≡ true
+      → IfOk (cond b (Err BeforeEpoch) (ok_or (option_map (λ time. line_of (cleaned_parts name email time)) o) OffsetTooWide)) Passes
   due-dated true e o h a b = tt
   due-dated false e None h a b = tt
   due-dated false e (Some text) h a b = due-line text a b (grind (arith, ints, e)) h
 
-  due-by : (n m e c : Bool) → list_any is_nul name ≡ n → list_any is_nul mail ≡ m
+  due-by : (n m e c : Bool) → list_any is_nul name ≡ n → list_any is_nul email ≡ m
       → IfOk
       (cond (n || m) (Err NulInPart) (cond e (Err EmptyName) (cond c (Err OnlyCrud) (cond (int_lt t.seconds (pos 0)) (Err BeforeEpoch)
-      (ok_or (option_map (λ time. line_of (cleaned_parts name mail time)) (header_text t)) OffsetTooWide))))) Passes
+      (ok_or (option_map (λ time. line_of (cleaned_parts name email time)) (header_text t)) OffsetTooWide))))) Passes
   due-by true m e c h k = tt
   due-by false true e c h k = tt
   due-by false false true c h k = tt
   due-by false false false true h k = tt
   due-by false false false false h k =
-      due-dated (int_lt t.seconds (pos 0)) refl (header_text t) refl (cleaned-part name h) (cleaned-part mail k)
+      due-dated (int_lt t.seconds (pos 0)) refl (header_text t) refl (cleaned-part name h) (cleaned-part email k)
 
-  pub written_passes : WrittenPasses name mail t
+  pub written_passes : WrittenPasses name email t
   unfolding ident_due
-  written_passes = due-by (list_any is_nul name) (list_any is_nul mail) (length name == 0) (list_all is_crud name) refl refl
+  written_passes = due-by (list_any is_nul name) (list_any is_nul email) (length name == 0) (list_all is_crud name) refl refl

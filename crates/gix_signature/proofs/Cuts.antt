@@ -43,12 +43,12 @@ no-opening = all-of is_allowed not_opening (λ c h. not-or (c == opening) (c == 
 
 -- what stands after ` <`
 abbrev pub after_name : Parts → List ℕ
-after_name p = p.mail ++ (codes "> " ++ p.time)
+after_name p = p.email ++ (codes "> " ++ p.time)
 
 -- none of these parts holds a forbidden byte
 pub record ArePlain (p : Parts) : Type 0 where
   pub name : is_part p.name ≡ true
-  pub mail : is_part p.mail ≡ true
+  pub email : is_part p.email ≡ true
   pub time : is_part p.time ≡ true
 
 pub plain : (p : Parts) → are_parts p ≡ true → ArePlain p
@@ -69,7 +69,7 @@ the-front line name rest q whole cut =
     let after : list_all not_opening (codes "> " ++ q.time) ≡ true = no-opening q.time are.time in
     let at = one-place not_opening opening (name ++ blank) rest (q.name ++ blank) (after_name q) refl
     (all-append not_opening q.name blank (no-opening q.name are.name) refl)
-    (all-append not_opening q.mail (codes "> " ++ q.time) (no-opening q.mail are.mail) after)
+    (all-append not_opening q.email (codes "> " ++ q.time) (no-opening q.email are.email) after)
     same in
     (append_cancel_right name q.name blank at.0, at.1)
 
@@ -78,9 +78,9 @@ pub the_cut : (line : List ℕ) (p q : Parts) → line ≡ line_of p → IsCut l
 the_cut line p q whole cut =
     let are = plain q cut.allowed in
     let front = the-front line p.name (after_name p) q whole cut in
-    let at = one-place is_allowed closing p.mail (32 ∷ p.time) q.mail (32 ∷ q.time) refl are.mail are.time front.1 in
+    let at = one-place is_allowed closing p.email (32 ∷ p.time) q.email (32 ∷ q.time) refl are.email are.time front.1 in
     let times : p.time ≡ q.time = ap (drop 1) at.1 in
-    (λ i. record { name = front.0 i; mail = at.0 i; time = times i })
+    (λ i. record { name = front.0 i; email = at.0 i; time = times i })
 
 -- a line that is taken apart at its marks into what may not stand has no cut
 pub no-cut : (line : List ℕ) (p : Parts) → line ≡ line_of p → are_parts p ≡ false → (q : Parts) → IsCut line q → ⊥

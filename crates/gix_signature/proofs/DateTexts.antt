@@ -31,7 +31,7 @@ use Rattle.gix_signature.specs.declared.fsck.FsckId.{FsckId}
 use Rattle.gix_signature.specs.declared.fsck.FsckId.TheVariants.{NulInHeader, MissingNameBeforeEmail, BadName, MissingEmail}
 use Rattle.gix_signature.specs.declared.fsck.FsckId.TheVariants.{MissingSpaceBeforeEmail, BadEmail, MissingSpaceBeforeDate, ZeroPaddedDate}
 use Rattle.gix_signature.specs.declared.fsck.FsckId.TheVariants.{BadDateOverflow, BadDate, BadTimezone}
-use Rattle.gix_signature.proofs.Shown.{run-len, run-all}
+use Rattle.gix_signature.proofs.Idents.Shown.{run-len, run-all}
 use Rattle.gix_signature.proofs.Texts.{add-one-front}
 
 -- the digits of a number: a `0` at the front is all
@@ -68,7 +68,7 @@ no-minus c h = grind (arith, nat_tests, h)
 sign-no-blank : (c : ℕ) → is_sign c ≡ true → is_blank c ≡ false
 sign-no-blank c h = grind (arith, nat_tests, h)
 
--- a date: a digit and more, a space, a sign and four digits
+-- a date: a digit and more, a space, a sign and digits
 pub record IsDate (n d : ℕ) (ds : List ℕ) (s : ℕ) (zs : List ℕ) : Type 0 where
   pub digit : is_ascii_digit d ≡ true
   pub digits : list_all is_ascii_digit ds ≡ true
@@ -77,7 +77,7 @@ pub record IsDate (n d : ℕ) (ds : List ℕ) (s : ℕ) (zs : List ℕ) : Type 0
   pub small : n < too_many_seconds
   pub sign : is_sign s ≡ true
   pub zone : list_all is_ascii_digit zs ≡ true
-  pub four : length zs ≡ 4
+  pub some : begins_with is_ascii_digit zs ≡ true
 
 front-stays : (p : ℕ → Bool) (c : ℕ) (xs : List ℕ) → p c ≡ false → without_front p (c ∷ xs) ≡ c ∷ xs
 front-stays p c xs h = ap (λ b. drop (cond b (1 + prefix_len p xs) 0) (c ∷ xs)) h
@@ -125,41 +125,38 @@ module _ (n d : ℕ) (ds : List ℕ) (s : ℕ) (zs : List ℕ) (is : IsDate n d 
       ∙ ap (λ k. Some (c_value false k, 32 ∷ zone)) is.value
       ∙ ap (λ k. Some (k, 32 ∷ zone)) kept
 
-  -- fsck's faults of it
+  -- fsck's faults of it, with four digits of the offset
   unpadded : (b : Bool) → is_zero d ≡ b → (b && not (begins_with is_space (ds ++ (32 ∷ zone)))) ≡ false
   unpadded true e = ap (λ xs. not (begins_with is_space (xs ++ (32 ∷ zone)))) (is.alone e)
   unpadded false e = refl
 
-  five : is_fsck_zone zone ≡ true
-  five = and_from (is_sign s && (length zone == 5)) (list_all is_ascii_digit zs)
-      (and_from (is_sign s) (length zone == 5) is.sign (grind (arith, nat_tests, is.four))) is.zone
+  five : length zs ≡ 4 → is_fsck_zone zone ≡ true
+  five four = and_from (is_sign s && (length zone == 5)) (list_all is_ascii_digit zs)
+      (and_from (is_sign s) (length zone == 5) is.sign (grind (arith, nat_tests, four))) is.zone
 
-  pub no-date-fault : (id : FsckId) → has_date_fault date id ≡ false
-  no-date-fault ZeroPaddedDate = unpadded (is_zero d) refl
-  no-date-fault BadDateOverflow =
+  pub no-date-fault : length zs ≡ 4 → (id : FsckId) → has_date_fault date id ≡ false
+  no-date-fault four ZeroPaddedDate = unpadded (is_zero d) refl
+  no-date-fault four BadDateOverflow =
       let few : nat_lt n too_many_seconds ≡ true = grind (arith, nat_tests, is.small) in
       ap (λ o. option_map_or (λ (r : ℕ × List ℕ). not (nat_lt r.0 too_many_seconds)) o false) number ∙ ap not few
-  no-date-fault BadDate = ap (λ o. not (option_map_or (λ (r : ℕ × List ℕ). begins_with is_space r.1) o false)) number
-  no-date-fault BadTimezone = ap (λ o. not (is_fsck_zone (option_map_or (λ (r : ℕ × List ℕ). drop 1 r.1) o date))) number ∙ ap not five
-  no-date-fault NulInHeader = refl
-  no-date-fault MissingNameBeforeEmail = refl
-  no-date-fault BadName = refl
-  no-date-fault MissingEmail = refl
-  no-date-fault MissingSpaceBeforeEmail = refl
-  no-date-fault BadEmail = refl
-  no-date-fault MissingSpaceBeforeDate = refl
+  no-date-fault four BadDate = ap (λ o. not (option_map_or (λ (r : ℕ × List ℕ). begins_with is_space r.1) o false)) number
+  no-date-fault four BadTimezone =
+      ap (λ o. not (is_fsck_zone (option_map_or (λ (r : ℕ × List ℕ). drop 1 r.1) o date))) number ∙ ap not (five four)
+  no-date-fault four NulInHeader = refl
+  no-date-fault four MissingNameBeforeEmail = refl
+  no-date-fault four BadName = refl
+  no-date-fault four MissingEmail = refl
+  no-date-fault four MissingSpaceBeforeEmail = refl
+  no-date-fault four BadEmail = refl
+  no-date-fault four MissingSpaceBeforeDate = refl
 
   -- what Git shows of it
-  zone-next : after_seconds date ≡ zone
+  pub zone-next : after_seconds date ≡ zone
   zone-next = ap (λ ys. without_front is_blank ys) left ∙ front-more is_blank 32 zone refl
       ∙ front-stays is_blank s zs (sign-no-blank s is.sign)
 
-  some-zone : (xs : List ℕ) → length xs ≡ 4 → list_all is_ascii_digit xs ≡ true → begins_with is_ascii_digit xs ≡ true
-  some-zone [] e h = absurd (omega (arith, e))
-  some-zone (x ∷ xs) e h = (and_parts (is_ascii_digit x) (list_all is_ascii_digit xs) h).0
-
   has-zone : begins_with_offset zone ≡ true
-  has-zone = and_from (is_sign s) (begins_with is_ascii_digit zs) is.sign (some-zone zs is.four is.zone)
+  has-zone = and_from (is_sign s) (begins_with is_ascii_digit zs) is.sign is.some
 
   all-zone : offset_at_front zone ≡ zone
   all-zone = ap (λ k. take (1 + k) zone) (run-all is_ascii_digit zs is.zone) ∙ take_all (1 + length zs) zone (omega arith)
@@ -177,17 +174,17 @@ module _ (n d : ℕ) (ds : List ℕ) (s : ℕ) (zs : List ℕ) (is : IsDate n d 
   stays = front-stays is_blank d (ds ++ (32 ∷ zone)) (no-blank d is.digit)
 
 -- Two pairs of digits, and what they write.
-pair-digits : (n : ℕ) → n < 100 → list_all is_ascii_digit (two_digits n) ≡ true
+pub pair-digits : (n : ℕ) → n < 100 → list_all is_ascii_digit (two_digits n) ≡ true
 pair-digits n h = grind (arith, and_from, is-digit)
 
-digit-value : (k : ℕ) → k < 10 → digit_value (48 + k) ≡ k
+pub digit-value : (k : ℕ) → k < 10 → digit_value (48 + k) ≡ k
 digit-value k h = let v = digit_value_digit (48 + k) (omega arith, omega arith) in omega (arith, v)
 
-pairs-value : (h m : ℕ) → h < 100 → m < 100 → digits_value 10 (two_digits h ++ two_digits m) ≡ 100 * h + m
+pub pairs-value : (h m : ℕ) → h < 100 → m < 100 → digits_value 10 (two_digits h ++ two_digits m) ≡ 100 * h + m
 pairs-value h m a b = grind (arith, digit-value)
 
 -- The time of a written offset.
-sign-value : (b : Bool) (ds : List ℕ)
+pub sign-value : (b : Bool) (ds : List ℕ)
     → signed_digits_value 10 ((if b then minus else plus) ∷ ds) ≡ cond b (neg_ℤ (pos (digits_value 10 ds))) (pos (digits_value 10 ds))
 sign-value true ds = refl
 sign-value false ds = refl
@@ -200,20 +197,20 @@ not-above : (z : ℤ) → unsigned_abs z < 10000 → int_lt greatest_offset z �
 not-above (pos k) h = grind (arith, ints, h)
 not-above (negsuc k) h = grind (arith, ints)
 
-kept-small : (z : ℤ) → unsigned_abs z < 10000 → kept_offset z ≡ z
+pub kept-small : (z : ℤ) → unsigned_abs z < 10000 → kept_offset z ≡ z
 kept-small z h = ap₂ (λ a b. cond (a || b) (pos 0) z) (not-below z h) (not-above z h)
 
-told-small : (s z : ℤ) → unsigned_abs z < 10000 → time_of_git (record { seconds = s; offset = z })
+told-small : (s z : ℤ) (kept : Bool) → unsigned_abs z < 10000 → time_of_git (record { seconds = s; offset = z; minus_zero = kept })
     ≡ Ok (record { seconds = s; offset = with_sign_of z (60 * minutes_told (unsigned_abs z)) })
 unfolding time_of_git
-told-small s z h = grind (arith, nat_tests)
+told-small s z kept h = grind (arith, nat_tests)
 
 signed-alike : (b : Bool) (n m : ℕ) → (n ≡ 0 → m ≡ 0) → with_sign_of (cond b (neg_ℤ (pos n)) (pos n)) m ≡ cond b (neg_ℤ (pos m)) (pos m)
 signed-alike false n m h = let no : int_lt (pos n) (pos 0) ≡ false = grind (arith, ints) in ap (λ b. cond b (neg_ℤ (pos m)) (pos m)) no
 signed-alike true zero m h = rw (h refl) refl
 signed-alike true (suc k) m h = refl
 
-abs-alike : (b : Bool) (n : ℕ) → unsigned_abs (cond b (neg_ℤ (pos n)) (pos n)) ≡ n
+pub abs-alike : (b : Bool) (n : ℕ) → unsigned_abs (cond b (neg_ℤ (pos n)) (pos n)) ≡ n
 abs-alike true zero = refl
 abs-alike true (suc k) = refl
 abs-alike false n = refl
@@ -223,10 +220,10 @@ minutes-are : (n : ℕ) → 60 * minutes_told (100 * (n / 3600) + n % 3600 / 60)
 minutes-are n = omega arith
 
 -- the time of a number with its sign, of that many seconds
-time-at : (n told m : ℕ) (b : Bool) → told < 10000 → 60 * minutes_told told ≡ m
-    → time_of_git (record { seconds = pos n; offset = kept_offset (cond b (neg_ℤ (pos told)) (pos told)) })
+time-at : (n told m : ℕ) (b kept : Bool) → told < 10000 → 60 * minutes_told told ≡ m
+    → time_of_git (record { seconds = pos n; offset = kept_offset (cond b (neg_ℤ (pos told)) (pos told)); minus_zero = kept })
     ≡ Ok (record { seconds = pos n; offset = cond b (neg_ℤ (pos m)) (pos m) })
-time-at n told m b small minutes = grind (arith, abs-alike, kept-small, told-small, signed-alike)
+time-at n told m b kept small minutes = grind (arith, abs-alike, kept-small, told-small, signed-alike)
 
 pub time-is : (n : ℕ) (o : ℤ) (ds : List ℕ) → n < too_many_seconds → unsigned_abs o < 360000 → digits_value 10 ds ≡ n
     → time_of_git (git_time (record { seconds = ds; offset = compact_offset_text o }))
@@ -248,7 +245,7 @@ date-is n o k small short =
       sign = a-sign (int_lt o (pos 0));
       zone = all-append is_ascii_digit (two_digits (m / 3600)) (two_digits (m % 3600 / 60)) (pair-digits (m / 3600) (omega arith))
           (pair-digits (m % 3600 / 60) (omega arith));
-      four = refl;
+      some = (and_parts (is_ascii_digit (48 + m / 3600 / 10)) _ (pair-digits (m / 3600) (omega arith))).0;
     }
   where
     a-sign : (b : Bool) → is_sign (if b then minus else plus) ≡ true

@@ -1,12 +1,13 @@
 -- Identity lines that the definitions are checked on, with what Git makes of them.
-use Rattle.std.proofs.Common.{◌≡◌, ℕ, true, false, List, [], ◌∷◌, ◌++◌, pos, negsuc, Option, None, Some, Ok, Err, refl}
+use Rattle.std.proofs.Common.{◌≡◌, ℕ, ℤ, Bool, true, false, List, [], ◌∷◌, ◌++◌, pos, negsuc, Option, None, Some, option_map, Ok, Err, refl}
 use Rattle.std.specs.Fmt.{digits}
 use Rattle.std.specs.Prelude.{codes}
 use Rattle.gix_date.specs.Header.Text.{header_text}
 use Rattle.gix_date.specs.declared.time.Time.{Time}
 use Rattle.gix_signature.specs.Ident.Bytes.{is_crud}
 use Rattle.gix_signature.specs.Ident.Parts.{DateText, IdentText, date_parts, line_parts, ident_parts}
-use Rattle.gix_signature.specs.Ident.Times.{git_time, time_of_git, c_number}
+use Rattle.gix_signature.specs.Ident.Times.{git_time, git_time_text, time_of_git, c_number}
+use Rattle.gix_signature.specs.Ident.Again.{is_line_of}
 use Rattle.gix_signature.specs.Ident.Fsck.{fsck_of, first_fault}
 use Rattle.gix_signature.specs.Ident.Due.{cleaned, ident_due}
 use Rattle.gix_signature.specs.declared.error.IdentFault.TheVariants.{NulInPart, EmptyName, OnlyCrud, BeforeEpoch, OffsetTooWide}
@@ -21,7 +22,7 @@ abbrev date : List ℕ → List ℕ → DateText
 date seconds offset = record { seconds = seconds; offset = offset }
 
 abbrev shown : List ℕ → List ℕ → Option DateText → Option IdentText
-shown name mail when = Some (record { name = name; mail = mail; date = when })
+shown name email when = Some (record { name = name; email = email; date = when })
 
 -- lines with a date
 dated : (ident_parts (codes "A U Thor <a@b> 5 +0100") ≡ shown (codes "A U Thor") (codes "a@b") (Some (date (codes "5") (codes "+0100"))))
@@ -55,27 +56,51 @@ unfolding line_parts date_parts
 nobody = (refl, refl, refl, refl, refl, refl)
 
 -- times, and those of seconds and an offset
-times : (git_time (date (codes "5") (codes "+0530")) ≡ record { seconds = pos 5; offset = pos 530 })
-    × (git_time (date (codes "5") (codes "-0001")) ≡ record { seconds = pos 5; offset = negsuc 0 })
-    × (git_time (date (codes "9223372036854775807") (codes "+0")) ≡ record { seconds = pos 9223372036854775807; offset = pos 0 })
-    × (git_time (date (codes "9223372036854775808") (codes "+0800")) ≡ record { seconds = pos 0; offset = pos 0 })
-    × (git_time (date (codes "5") (codes "+2147483646")) ≡ record { seconds = pos 5; offset = pos 2147483646 })
-    × (git_time (date (codes "5") (codes "+2147483647")) ≡ record { seconds = pos 5; offset = pos 0 })
-    × (git_time (date (codes "5") (codes "-2147483647")) ≡ record { seconds = pos 5; offset = negsuc 2147483646 })
-    × (git_time (date (codes "5") (codes "-2147483648")) ≡ record { seconds = pos 5; offset = pos 0 })
+abbrev at : ℕ → ℤ → GitTime
+at seconds offset = record { seconds = pos seconds; offset = offset; minus_zero = false }
+
+abbrev minus_at : ℕ → GitTime
+minus_at seconds = record { seconds = pos seconds; offset = pos 0; minus_zero = true }
+
+times : (git_time (date (codes "5") (codes "+0530")) ≡ at 5 (pos 530))
+    × (git_time (date (codes "5") (codes "-0001")) ≡ at 5 (negsuc 0))
+    × (git_time (date (codes "5") (codes "-0000")) ≡ minus_at 5)
+    × (git_time (date (codes "9223372036854775807") (codes "+0")) ≡ at 9223372036854775807 (pos 0))
+    × (git_time (date (codes "9223372036854775808") (codes "-0800")) ≡ at 0 (pos 0))
+    × (git_time (date (codes "5") (codes "+2147483646")) ≡ at 5 (pos 2147483646))
+    × (git_time (date (codes "5") (codes "+2147483647")) ≡ at 5 (pos 0))
+    × (git_time (date (codes "5") (codes "-2147483647")) ≡ at 5 (negsuc 2147483646))
+    × (git_time (date (codes "5") (codes "-2147483648")) ≡ minus_at 5)
 unfolding git_time
-times = (refl, refl, refl, refl, refl, refl, refl, refl)
+times = (refl, refl, refl, refl, refl, refl, refl, refl, refl)
 
-abbrev at : ℕ → GitTime
-at offset = record { seconds = pos 5; offset = pos offset }
-
-converted : (time_of_git (at 60) ≡ Ok (record { seconds = pos 5; offset = pos 3600 }))
-    × (time_of_git (at 9999) ≡ Ok (record { seconds = pos 5; offset = pos 362340 }))
-    × (time_of_git (record { seconds = pos 5; offset = negsuc 129 }) ≡ Ok (record { seconds = pos 5; offset = negsuc 5399 }))
-    × (time_of_git (at 59652314) ≡ Ok (record { seconds = pos 5; offset = pos 2147483640 }))
-    × (time_of_git (at 59652315) ≡ Err OffsetTooWide)
+converted : (time_of_git (at 5 (pos 60)) ≡ Ok (record { seconds = pos 5; offset = pos 3600 }))
+    × (time_of_git (minus_at 5) ≡ Ok (record { seconds = pos 5; offset = pos 0 }))
+    × (time_of_git (at 5 (pos 9999)) ≡ Ok (record { seconds = pos 5; offset = pos 362340 }))
+    × (time_of_git (at 5 (negsuc 129)) ≡ Ok (record { seconds = pos 5; offset = negsuc 5399 }))
+    × (time_of_git (at 5 (pos 59652314)) ≡ Ok (record { seconds = pos 5; offset = pos 2147483640 }))
+    × (time_of_git (at 5 (pos 59652315)) ≡ Err OffsetTooWide)
 unfolding time_of_git
-converted = (refl, refl, refl, refl, refl)
+converted = (refl, refl, refl, refl, refl, refl)
+
+-- times as a line has them
+time_texts : (git_time_text (at 5 (pos 530)) ≡ codes "5 +0530") × (git_time_text (minus_at 5) ≡ codes "5 -0000")
+    × (git_time_text (at 5 (negsuc 59)) ≡ codes "5 -0060") × (git_time_text (at 5 (pos 51800)) ≡ codes "5 +51800")
+    × (git_time_text (record { seconds = negsuc 4; offset = negsuc 0; minus_zero = true }) ≡ codes "-5 -0001")
+unfolding digits
+time_texts = (refl, refl, refl, refl, refl)
+
+-- whether what was read is written as it stood
+abbrev back : List ℕ → Option Bool
+back line = option_map (is_line_of line) (ident_parts line)
+
+written_again : (back (codes "A <a@b> 5 -0000") ≡ Some true) × (back (codes " <> 0 +0060") ≡ Some true)
+    × (back (codes "A  <a@b> 5 +0000") ≡ Some false) × (back (codes "A <a@b> 05 +0000") ≡ Some false)
+    × (back (codes "A <a@b> 5 +00") ≡ Some false)
+    × (back (codes "A <a@b> 5 +0000 ") ≡ Some false) × (back (codes "A <a@b> 5 --700") ≡ Some false)
+    × (back (codes "A <a@b> <c> 5 +0000") ≡ Some false)
+unfolding line_parts date_parts git_time digits
+written_again = (refl, refl, refl, refl, refl, refl, refl, refl)
 
 -- numbers as C reads them
 numbers : (c_number (codes " \n5 x") ≡ Some (5, codes " x")) × (c_number (codes "+5") ≡ Some (5, []))

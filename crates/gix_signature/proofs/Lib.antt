@@ -1,10 +1,12 @@
+pub mod Idents
 pub mod Cuts
 pub mod Pieces
 pub mod Written
 pub mod SignatureRows
 pub mod Texts
 pub mod IdentRows
-pub mod Shown
 pub mod DateTexts
-pub mod Passing
 pub mod Cleaned
+pub mod TimeTexts
+pub mod Headers
+pub mod Numbers

@@ -13,7 +13,7 @@ use Rattle.gix_signature.proofs.Cuts.{no-cut}
 use Rattle.gix_signature.proofs.Written.{differs}
 
 abbrev parts : List ℕ → List ℕ → List ℕ → Parts
-parts name mail time = record { name = name; mail = mail; time = time }
+parts name email time = record { name = name; email = email; time = time }
 
 author : IsCut (codes "A U Thor <author@example.com> 1660874655 +0800")
     (parts (codes "A U Thor") (codes "author@example.com") (codes "1660874655 +0800"))
@@ -40,9 +40,9 @@ second_bracket = no-cut _ (parts (codes "A") (codes "a") (codes "<b> 0 +0000")) 
 newline_after : HasNoCut (codes "A <a> 0 +0000\n")
 newline_after = no-cut _ (parts (codes "A") (codes "a") (codes "0 +0000\n")) refl refl
 
--- each of the four, in the name, the mail and the time
-none : (name mail time : List ℕ) → are_parts (parts name mail time) ≡ false → HasNoCut (line_of (parts name mail time))
-none name mail time bad = no-cut _ (parts name mail time) refl bad
+-- each of the four, in the name, the email and the time
+none : (name email time : List ℕ) → are_parts (parts name email time) ≡ false → HasNoCut (line_of (parts name email time))
+none name email time bad = no-cut _ (parts name email time) refl bad
 
 opening_in_a_part : HasNoCut (codes "A< <a> 0") × HasNoCut (codes "A <a<b> 0") × HasNoCut (codes "A <a> 0<")
 opening_in_a_part = (
@@ -89,8 +89,8 @@ wide : line_due (codes "A") (codes "a") (record { seconds = pos 0; offset = pos 
 unfolding header_text digits
 wide = refl
 
-bad_mail : line_due (codes "A") (codes "a\n") (record { seconds = pos 0; offset = pos 0 }) ≡ Err BadPart
-bad_mail = refl
+bad_email : line_due (codes "A") (codes "a\n") (record { seconds = pos 0; offset = pos 0 }) ≡ Err BadPart
+bad_email = refl
 
 -- What was written.
 abbrev behind_utc : Time

@@ -1,4 +1,4 @@
--- What is written of a name, a mail and a time, and how it is cut.
+-- What is written of a name, an email and a time, and how it is cut.
 use Rattle.std.proofs.Common.{◌≡◌, ◌≢◌, ℕ, ◌+◌, ◌/◌, ◌%◌, ◌^◌, ◌<◌, suc, Bool, true, false, cond, not, ◌&&◌, ◌==◌, List, [], ◌∷◌, ◌++◌}
 use Rattle.std.proofs.Common.{length, ℤ, pos, negsuc, Option, Some, None, Result, Ok, Err, IsSomeAnd, IfOk, OnOk, ok_or, option_map}
 use Rattle.std.proofs.Common.{unwrap_or, unsigned_abs, FitsSigned, w64, refl, ap, subst, arith, length-append}
@@ -31,7 +31,7 @@ digit-stands n h = grind (arith, differs)
 one-stands : (n : ℕ) → n < 10 → is_part ((48 + n) ∷ []) ≡ true
 one-stands n h = and_from (is_allowed (48 + n)) true (digit-stands n h) refl
 
-decimal-stands : (n : ℕ) → n < 2 ^ 64 → is_part (decimal n) ≡ true
+pub decimal-stands : (n : ℕ) → n < 2 ^ 64 → is_part (decimal n) ≡ true
 decimal-stands = decimal_by_steps (λ n ds. is_part ds ≡ true) one-stands
     (λ n ds more k. all-append is_allowed ds ((48 + n % 10) ∷ []) k (one-stands (n % 10) (omega arith)))
 
@@ -68,13 +68,13 @@ unfolding header_text
 text-is t text f e = grind (arith, text-of, nat_tests, all-append, seconds-stand, zone-stands, filled)
 
 -- What is due is cut so again.
-due-by : (name mail : List ℕ) (t : Time) → FitsSigned w64 t.seconds → (b : Bool) → (is_part name && is_part mail) ≡ b
+due-by : (name email : List ℕ) (t : Time) → FitsSigned w64 t.seconds → (b : Bool) → (is_part name && is_part email) ≡ b
     → (o : Option (List ℕ)) → header_text t ≡ o
-    → IfOk (cond b (ok_or (option_map line_of (option_map (λ text. record { name = name; mail = mail; time = text }) o)) OffsetTooWide)
-    (Err BadPart)) (IsWritten name mail t)
-due-by name mail t f false parts o h = tt
-due-by name mail t f true parts None h = tt
-due-by name mail t f true parts (Some text) h =
+    → IfOk (cond b (ok_or (option_map line_of (option_map (λ text. record { name = name; email = email; time = text }) o)) OffsetTooWide)
+    (Err BadPart)) (IsWritten name email t)
+due-by name email t f false parts o h = tt
+due-by name email t f true parts None h = tt
+due-by name email t f true parts (Some text) h =
     let is = text-is t text f h in
     record {
       text = text;
@@ -82,18 +82,18 @@ due-by name mail t f true parts (Some text) h =
       cut = record {
         whole = refl;
         allowed =
-            and_from (is_part name && is_part mail && is_part text) _ (and_from (is_part name && is_part mail) _ parts is.stands) is.some;
+            and_from (is_part name && is_part email && is_part text) _ (and_from (is_part name && is_part email) _ parts is.stands) is.some;
       };
       back = λ whole. subst (λ r. IsSomeAnd r (λ x. header_time x ≡ Some t)) h (written_text_is_read t f is.short whole);
     }
 
-pub written_is_cut : (name mail : List ℕ) (t : Time) → FitsSigned w64 t.seconds → IfOk (line_due name mail t) (IsWritten name mail t)
-written_is_cut name mail t f = due-by name mail t f (is_part name && is_part mail) refl (header_text t) refl
+pub written_is_cut : (name email : List ℕ) (t : Time) → FitsSigned w64 t.seconds → IfOk (line_due name email t) (IsWritten name email t)
+written_is_cut name email t f = due-by name email t f (is_part name && is_part email) refl (header_text t) refl
 
 -- What writing comes to.
-pub due-is : (name mail : List ℕ) (t : Time) → is_part name ≡ true → is_part mail ≡ true
-    → line_due name mail t ≡ ok_or (option_map line_of (parts_due name mail t)) OffsetTooWide
-due-is name mail t h k = grind (arith, and_from)
+pub due-is : (name email : List ℕ) (t : Time) → is_part name ≡ true → is_part email ≡ true
+    → line_due name email t ≡ ok_or (option_map line_of (parts_due name email t)) OffsetTooWide
+due-is name email t h k = grind (arith, and_from)
 
 wrote-by : (due : Result (List ℕ) SignatureError) (Is : List ℕ → Type 0) (old new : StreamState) (r : Result (Unit {0}) SignatureError)
     → IfOk due Is → WritesLine due old new r
@@ -103,7 +103,7 @@ wrote-by (Err e) Is old new (Ok u) is h = absurd h
 wrote-by (Ok line) Is old new (Err e) is h = tt
 wrote-by (Err d) Is old new (Err e) is h = tt
 
-pub wrote : (name mail : List ℕ) (t : Time) (old new : StreamState) (r : Result (Unit {0}) SignatureError) → FitsSigned w64 t.seconds
-    → WritesLine (line_due name mail t) old new r
-    → OnOk r ((line : List ℕ) × IsWritten name mail t line × Takes old new line)
-wrote name mail t old new r f h = wrote-by (line_due name mail t) (IsWritten name mail t) old new r (written_is_cut name mail t f) h
+pub wrote : (name email : List ℕ) (t : Time) (old new : StreamState) (r : Result (Unit {0}) SignatureError) → FitsSigned w64 t.seconds
+    → WritesLine (line_due name email t) old new r
+    → OnOk r ((line : List ℕ) × IsWritten name email t line × Takes old new line)
+wrote name email t old new r f h = wrote-by (line_due name email t) (IsWritten name email t) old new r (written_is_cut name email t f) h

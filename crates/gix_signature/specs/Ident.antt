@@ -5,4 +5,6 @@ pub mod Parts
 pub mod Times
 pub mod Fsck
 pub mod Due
+pub mod Again
+pub mod Usual
 pub mod Laws

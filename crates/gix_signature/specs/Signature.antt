@@ -30,20 +30,20 @@ is_part text = list_all is_allowed text
 -- the parts that a line is cut into
 pub record Parts : Type 0 where
   pub name : List ℕ
-  pub mail : List ℕ
+  pub email : List ℕ
   pub time : List ℕ
 
 -- the texts of the three slices
 abbrev pub parts_of : SignatureRef → Parts
-parts_of s = record { name = s.name.now; mail = s.mail.now; time = s.time.now }
+parts_of s = record { name = s.name.now; email = s.email.now; time = s.time.now }
 
 -- the line of these parts
 abbrev pub line_of : Parts → List ℕ
-line_of p = p.name ++ (codes " <" ++ (p.mail ++ (codes "> " ++ p.time)))
+line_of p = p.name ++ (codes " <" ++ (p.email ++ (codes "> " ++ p.time)))
 
 -- the parts are those of a line: no byte is `<`, `>`, a newline or NUL, and the time is not empty
 abbrev pub are_parts : Parts → Bool
-are_parts p = is_part p.name && is_part p.mail && is_part p.time && not (length p.time == 0)
+are_parts p = is_part p.name && is_part p.email && is_part p.time && not (length p.time == 0)
 
 -- the line is cut into these parts: it is the name, ` <`, the email, `> ` and the time, and these may be its parts
 pub record IsCut (line : List ℕ) (p : Parts) : Type 0 where

@@ -6,7 +6,7 @@ use thiserror::Error;
 #[derive(Debug, Drop, Error)]
 pub enum SignatureError {
     /// The name or the email holds `<`, `>`, a newline or NUL, so a line of it has no cut.
-    #[error("a name or mail may not hold `<`, `>`, a newline or NUL")]
+    #[error("a name or email may not hold `<`, `>`, a newline or NUL")]
     BadPart,
     /// The offset is 100 hours or more, so four digits cannot say it.
     #[error("an offset of 100 hours or more from UTC cannot be written")]
@@ -20,7 +20,7 @@ pub enum SignatureError {
 #[derive(Debug, Drop, Error)]
 pub enum IdentFault {
     /// The name or the email holds NUL, at which a text ends for Git.
-    #[error("a name or mail may not hold NUL")]
+    #[error("a name or email may not hold NUL")]
     NulInPart,
     /// The name has no bytes.
     #[error("the name is empty")]

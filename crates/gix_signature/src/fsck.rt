@@ -1,12 +1,12 @@
 //! What `git fsck` says of an identity line.
-ghost use Rattle.std.specs.Prelude.{◌≡◌, ◌≤◌, nat_lt, not, length};
-ghost use Rattle.std.specs.List.{find, list_any};
+ghost use Rattle.std.specs.Prelude.{◌≡◌, ◌≤◌, ◌∷◌, ◌++◌, false, length, option_map};
+ghost use Rattle.std.specs.List.{list_any};
 ghost use Rattle.gix_signature.specs as Spec;
 ghost use Rattle.gix_date.specs as GixDate;
 
 use crate::ident::bytes::{
-    after_first, after_one, are_digits, begins_with, begins_with_sign, bracket_place, has_nul,
-    last_spaces_len, place_of,
+    after_first, after_one, are_digits, begins_with, begins_with_nul, begins_with_sign,
+    bracket_place, last_spaces_len, line_len, place_of,
 };
 use crate::ident::{TOO_MANY_SECONDS, c_number};
 
@@ -51,11 +51,25 @@ pub struct FsckFault {
 ///
 /// The line ends before the first line feed, or is all. Git reads a number also in the next line where this one ends
 /// after `> `; here that is [`FsckId::BadDate`]. Takes no memory.
-#[tactic(auto, unfolding(crate::specs::fsck_of))]
+#[tactic(auto, using(crate::proofs::Idents::Judged::nul_found, crate::proofs::Idents::Judged::without_nul, crate::proofs::Idents::Judged::judged))]
 pub fn fsck_of(text: &[u8]) -> Option<FsckFault>
     ensures { result ≡ Spec.fsck_of text.now }
 {
-    let line = &text[..place_of(text, b'\n')];
+    let (line, rest) = text.split_at(line_len(text));
+    if begins_with_nul(rest) {
+        return Some(FsckFault {
+            id: FsckId::NulInHeader,
+            place: line.len(),
+        });
+    }
+    fault_of_line(line)
+}
+
+/// What is said of a line without NUL.
+fn fault_of_line(line: &[u8]) -> Option<FsckFault>
+    requires { list_any Spec.is_nul line.now ≡ false }
+    ensures { result ≡ option_map (Spec.fault_at line.now) (Spec.first_fault line.now) }
+{
     let id = first_fault(line)?;
     Some(FsckFault {
         id,
@@ -63,82 +77,61 @@ pub fn fsck_of(text: &[u8]) -> Option<FsckFault>
     })
 }
 
-/// All messages, in the order in which Git looks for them.
-const FSCK_IDS: [FsckId; 11] = [
-    FsckId::NulInHeader,
-    FsckId::MissingNameBeforeEmail,
-    FsckId::BadName,
-    FsckId::MissingEmail,
-    FsckId::MissingSpaceBeforeEmail,
-    FsckId::BadEmail,
-    FsckId::MissingSpaceBeforeDate,
-    FsckId::ZeroPaddedDate,
-    FsckId::BadDateOverflow,
-    FsckId::BadDate,
-    FsckId::BadTimezone,
-];
-
-fn fsck_ids() -> &'static [FsckId]
-    ensures { result.now ≡ Spec.fsck_ids }
-{
-    &FSCK_IDS
-}
-
-#[tactic(auto, unfolding(crate::specs::first_fault))]
+/// The first fault of a line without NUL.
+#[tactic(auto, using(crate::proofs::Idents::Judged::no_bracket, crate::proofs::Idents::Judged::closing_first, crate::proofs::Idents::Judged::whole_line_is, crate::proofs::Idents::Judged::none_before))]
 fn first_fault(line: &[u8]) -> Option<FsckId>
+    requires { list_any Spec.is_nul line.now ≡ false }
     ensures { result ≡ Spec.first_fault line.now }
 {
-    fault_in(line, fsck_ids())
-}
-
-/// The first of these faults that a line has.
-fn fault_in(line: &[u8], ids: &[FsckId]) -> Option<FsckId>
-    ensures { result ≡ find (Spec.has_fault line.now) ids.now }
-{
-    ids.iter().copied().find(|id| has_fault(line, *id))
-}
-
-/// Whether a line has a fault, if it has none of those before it.
-fn has_fault(line: &[u8], id: FsckId) -> bool
-    ensures { result ≡ Spec.has_fault line.now id }
-{
-    match id {
-        FsckId::NulInHeader => has_nul(line),
-        FsckId::MissingNameBeforeEmail => begins_with(line, b'<'),
-        FsckId::BadName => begins_with(from_bracket(line), b'>'),
-        FsckId::MissingEmail => !has_bracket(line),
-        FsckId::MissingSpaceBeforeEmail => !ends_with_space(&line[..place_of(line, b'<')]),
-        FsckId::BadEmail => !begins_with(from_next_bracket(line), b'>'),
-        FsckId::MissingSpaceBeforeDate => !begins_with(after_mail(line), b' '),
-        _ => has_date_fault(fsck_date(line), id),
+    let (name, rest) = line.split_at(bracket_place(line));
+    if rest.is_empty() {
+        return Some(FsckId::MissingEmail);
     }
-}
-
-/// Whether what stands after the mail and a space has a fault.
-fn has_date_fault(date: &[u8], id: FsckId) -> bool
-    ensures { result ≡ Spec.has_date_fault date.now id }
-{
-    match id {
-        FsckId::ZeroPaddedDate => begins_with(date, b'0') && !begins_with(after_one(date), b' '),
-        FsckId::BadDateOverflow => is_too_large(date),
-        FsckId::BadDate => !is_before_space(date),
-        FsckId::BadTimezone => !is_fsck_zone(after_number(date)),
-        _ => false,
+    if !begins_with(rest, b'<') {
+        return Some(FsckId::BadName);
     }
+    opened_fault(name, after_one(rest))
 }
 
-/// Whether a number stands there that is 2^63 or more.
-fn is_too_large(date: &[u8]) -> bool
-    ensures { result ≡ Spec.number_is (λ n rest. not (nat_lt n Spec.too_many_seconds)) date.now }
+/// The first fault of a line by what stands before and after its first bracket, `<`.
+#[tactic(auto, using(crate::proofs::Idents::Judged::opened))]
+fn opened_fault(name: &[u8], inside: &[u8]) -> Option<FsckId>
+    requires nul { list_any Spec.is_nul (name.now ++ (Spec.opening ∷ inside.now)) ≡ false }
+    requires bracket { list_any Spec.is_bracket name.now ≡ false }
+    ensures { result ≡ Spec.first_fault (name.now ++ (Spec.opening ∷ inside.now)) }
 {
-    c_number(date).is_some_and(|(n, _)| n >= TOO_MANY_SECONDS)
+    if name.is_empty() {
+        return Some(FsckId::MissingNameBeforeEmail);
+    }
+    if !ends_with_space(name) {
+        return Some(FsckId::MissingSpaceBeforeEmail);
+    }
+    let rest = from_bracket(inside);
+    if !begins_with(rest, b'>') {
+        return Some(FsckId::BadEmail);
+    }
+    let rest = after_one(rest);
+    if !begins_with(rest, b' ') {
+        return Some(FsckId::MissingSpaceBeforeDate);
+    }
+    date_fault(after_one(rest))
 }
 
-/// Whether a number and then a space stand there.
-fn is_before_space(date: &[u8]) -> bool
-    ensures { result ≡ Spec.number_is (λ n rest. Spec.begins_with GixDate.is_space rest) date.now }
+/// The first fault of what stands after the email and a space.
+#[tactic(auto, using(crate::proofs::Idents::Judged::padded, crate::proofs::Idents::Judged::no_number, crate::proofs::Idents::Judged::numbered), unfolding(crate::specs::first_date_fault))]
+fn date_fault(date: &[u8]) -> Option<FsckId>
+    ensures { result ≡ Spec.first_date_fault date.now }
 {
-    c_number(date).is_some_and(|(_, rest)| begins_with(rest, b' '))
+    if begins_with(date, b'0') && !begins_with(after_one(date), b' ') {
+        return Some(FsckId::ZeroPaddedDate);
+    }
+    match c_number(date) {
+        None => Some(FsckId::BadDate),
+        Some((seconds, _)) if seconds >= TOO_MANY_SECONDS => Some(FsckId::BadDateOverflow),
+        Some((_, rest)) if !begins_with(rest, b' ') => Some(FsckId::BadDate),
+        Some((_, rest)) if !is_fsck_zone(after_one(rest)) => Some(FsckId::BadTimezone),
+        Some(_) => None,
+    }
 }
 
 /// What stands after a number and one byte more.
@@ -153,18 +146,10 @@ fn after_number(date: &[u8]) -> &[u8]
 }
 
 /// Whether a text is a sign and four digits.
-fn is_fsck_zone(text: &[u8]) -> bool
+pub(crate) fn is_fsck_zone(text: &[u8]) -> bool
     ensures { result ≡ Spec.is_fsck_zone text.now }
 {
     begins_with_sign(text) && text.len() == 5 && are_digits(after_one(text))
-}
-
-/// Whether a line has a bracket.
-#[tactic(auto, using(crate::proofs::Texts::place_within))]
-fn has_bracket(line: &[u8]) -> bool
-    ensures { result ≡ list_any Spec.is_bracket line.now }
-{
-    bracket_place(line) < line.len()
 }
 
 /// Whether a text ends with a space.
@@ -186,7 +171,7 @@ fn from_fault(line: &[u8], id: FsckId) -> &[u8]
         FsckId::MissingEmail => &line[line.len()..],
         FsckId::MissingSpaceBeforeEmail => from_bracket(line),
         FsckId::BadEmail => from_next_bracket(line),
-        FsckId::MissingSpaceBeforeDate => after_mail(line),
+        FsckId::MissingSpaceBeforeDate => after_email(line),
         FsckId::ZeroPaddedDate | FsckId::BadDateOverflow | FsckId::BadDate => fsck_date(line),
         FsckId::BadTimezone => after_number(fsck_date(line)),
     }
@@ -209,8 +194,8 @@ fn from_next_bracket(line: &[u8]) -> &[u8]
 }
 
 /// What stands after that bracket.
-fn after_mail(line: &[u8]) -> &[u8]
-    ensures value { result.now ≡ Spec.after_mail line.now }
+fn after_email(line: &[u8]) -> &[u8]
+    ensures value { result.now ≡ Spec.after_email line.now }
     ensures within { length result.now ≤ length line.now }
 {
     after_one(from_next_bracket(line))
@@ -221,5 +206,5 @@ fn fsck_date(line: &[u8]) -> &[u8]
     ensures value { result.now ≡ Spec.fsck_date line.now }
     ensures within { length result.now ≤ length line.now }
 {
-    after_one(after_mail(line))
+    after_one(after_email(line))
 }

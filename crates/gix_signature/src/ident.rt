@@ -1,16 +1,18 @@
 //! Identity lines of commits and tags, in the parts that Git shows.
-ghost use Rattle.std.specs.Prelude.{◌≡◌, option_map, ◌≤◌, ◌≤ℤ◌, min, pos, int_lt, if◌then◌else◌, length, IfSome};
+ghost use Rattle.std.specs.Prelude.{◌≡◌, option_map, ◌≤◌, ◌≤ℤ◌, pos, int_lt, if◌then◌else◌, length, false, Some, IfSome};
 ghost use Rattle.gix_signature.specs as Spec;
 ghost use Rattle.std.specs.Char.{digit_value};
 ghost use Rattle.std.specs.Str.Parse.{digits_value, signed_digits_value};
 ghost use Rattle.gix_date.specs as GixDate;
 
 pub(crate) mod bytes;
+pub mod usual;
+pub mod written;
 
 use crate::error::IdentFault;
 use bytes::{
-    after_one, begins_with_digit, begins_with_sign, blanks_len, cut_at, digits_len,
-    last_blanks_len, line_len, place_of, tail_len, white_len,
+    after_first, after_one, begins_with, begins_with_digit, begins_with_sign, blanks_len, cut_at,
+    digits_len, last_blanks_len, line_len, place_of, tail_len, white_len,
 };
 use gix_date::Time;
 
@@ -20,7 +22,7 @@ pub struct IdentRef<'a> {
     /// What stands before the first `<`, without the blanks at its end. It may be empty.
     pub name: &'a [u8],
     /// What stands between the first `<` and the next `>`, which may be empty.
-    pub mail: &'a [u8],
+    pub email: &'a [u8],
     /// The date after the last `>`; `None` where Git shows none.
     pub date: Option<DateParts<'a>>,
 }
@@ -28,12 +30,16 @@ pub struct IdentRef<'a> {
 /// Where the parts of an identity line stand, in bytes from the front of its text. The name stands at the front.
 #[derive(Debug, Clone, Copy, PartialEq, Eq)]
 pub struct IdentPlaces {
-    /// Where the mail stands: after the first `<`.
-    pub mail: usize,
-    /// Where the seconds stand: after the last `>` and blanks.
+    /// Where the email stands: after the first `<`.
+    pub email: usize,
+    /// Where the rest stands: after the email and its `>`.
+    pub rest: usize,
+    /// Where the seconds stand: after the last `>` and blanks. Without a date they would stand there.
     pub seconds: usize,
     /// Where the offset stands: after the digits of the seconds and blanks.
     pub offset: usize,
+    /// Where the line ends: before its line feed or NUL.
+    pub end: usize,
 }
 
 impl IdentPlaces {
@@ -44,9 +50,11 @@ impl IdentPlaces {
         let line = &text[..line_len(text)];
         let date = date_text(line);
         IdentPlaces {
-            mail: place_of(line, b'<') + 1,
+            email: place_of(line, b'<') + 1,
+            rest: line.len() - after_first(after_first(line, b'<'), b'>').len(),
             seconds: line.len() - date.len(),
             offset: line.len() - after_seconds(date).len(),
+            end: line.len(),
         }
     }
 }
@@ -77,10 +85,10 @@ impl<'a> IdentRef<'a> {
         ensures { option_map Spec.ident_text_of result ≡ Spec.line_parts line.now }
     {
         let (name, rest) = cut_at(line, b'<')?;
-        let (mail, _) = cut_at(rest, b'>')?;
+        let (email, _) = cut_at(rest, b'>')?;
         Some(IdentRef {
             name: without_last_blanks(name),
-            mail,
+            email,
             date: date_parts(date_text(line)),
         })
     }
@@ -138,9 +146,6 @@ fn begins_with_offset(text: &[u8]) -> bool
 /// From so many seconds on Git shows none: 2^63.
 pub(crate) const TOO_MANY_SECONDS: u64 = 9_223_372_036_854_775_808;
 
-/// How many numbers 64 bits hold: 2^64.
-const NUMBERS_OF_64_BITS: u128 = 18_446_744_073_709_551_616;
-
 /// The widest offset, in minutes, whose seconds an `i32` holds.
 const WIDEST_MINUTES: u32 = 35_791_394;
 
@@ -151,9 +156,22 @@ pub struct GitTime {
     pub seconds: i64,
     /// The offset as one decimal number, hours before the last two digits, minutes in them: `+0530` is 530.
     pub offset: i32,
+    /// Whether a minus stands before an offset of 0, as in `-0000`. Beside another offset it means nothing.
+    pub minus_zero: bool,
 }
 
 impl GitTime {
+    /// A time of seconds and an offset's number, with a plus before 0.
+    pub const fn new(seconds: i64, offset: i32) -> GitTime
+        ensures { result ≡ record { seconds = seconds; offset = offset; minus_zero = false } }
+    {
+        GitTime {
+            seconds,
+            offset,
+            minus_zero: false,
+        }
+    }
+
     /// The time of these seconds, with the offset in seconds. Minutes may be 60 and more: `+0060` is an hour.
     ///
     /// [`IdentFault::OffsetTooWide`] if the offset is more than 35791394 minutes, either way.
@@ -182,16 +200,29 @@ impl DateParts<'_> {
     pub fn git_time(self) -> GitTime
         ensures { result ≡ Spec.git_time (Spec.date_text_of self.entry) }
     {
-        match seconds_of(self.seconds) {
-            Some(seconds) => GitTime {
-                seconds,
-                offset: git_offset(self.offset),
-            },
-            None => GitTime {
-                seconds: 0,
-                offset: 0,
-            },
-        }
+        time_at(seconds_of(self.seconds), self.offset)
+    }
+}
+
+/// The time of seconds and an offset's text, and the epoch without seconds.
+fn time_at(seconds: Option<i64>, text: &[u8]) -> GitTime
+    ensures { result ≡ Spec.git_time_at seconds (Spec.begins_with Spec.is_minus text.now) (signed_digits_value 10 text.now) }
+{
+    let Some(seconds) = seconds else {
+        return GitTime::new(0, 0);
+    };
+    time_of(seconds, git_offset(text), text)
+}
+
+/// The time of seconds, and of the offset that Git keeps of a text.
+pub(crate) fn time_of(seconds: i64, offset: i32, text: &[u8]) -> GitTime
+    requires { offset ≡ Spec.kept_offset (signed_digits_value 10 text.now) }
+    ensures { result ≡ Spec.git_time_at (Some seconds) (Spec.begins_with Spec.is_minus text.now) (signed_digits_value 10 text.now) }
+{
+    GitTime {
+        seconds,
+        offset,
+        minus_zero: begins_with(text, b'-') && offset == 0,
     }
 }
 
@@ -229,22 +260,21 @@ fn number_to(most: i32, digits: &[u8]) -> i32
 }
 
 /// The number that digits write, if 64 bits hold it. Takes no memory.
+#[tactic(auto, using(std::proofs::lemmas::Int::Digits::digits_value_more, crate::proofs::Numbers::too_many, crate::proofs::Numbers::one_too_many, crate::proofs::Numbers::held))]
 pub fn number(digits: &[u8]) -> Option<u64>
     ensures { result ≡ Spec.held_number (digits_value 10 digits.now) }
 {
-    u64::try_from(counted(digits)).ok()
-}
-
-/// The number that digits write, or 2^64 if it is more.
-#[tactic(auto, using(std::proofs::lemmas::Int::Digits::digits_value_more))]
-fn counted(digits: &[u8]) -> u128
-    ensures { result ≡ min (digits_value 10 digits.now) Spec.numbers_of_64_bits }
-{
-    let mut value = 0u128;
+    let mut value = 0u64;
     for digit in digits {
-        value = (10 * value + u128::from(digit_value(*digit))).min(NUMBERS_OF_64_BITS);
+        let Some(tens) = value.checked_mul(10) else {
+            return None;
+        };
+        let Some(more) = tens.checked_add(u64::from(digit_value(*digit))) else {
+            return None;
+        };
+        value = more;
     }
-    value
+    Some(value)
 }
 
 /// The value of a digit. Bytes that are no digits have some value from 10.

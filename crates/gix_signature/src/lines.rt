@@ -5,6 +5,7 @@ ghost use Rattle.gix_date.specs as GixDate;
 ghost use Rattle.std.specs.List.{list_all};
 
 use crate::error::{IdentFault, SignatureError};
+use crate::ident::GitTime;
 use crate::ident::bytes::{after_one, crud_len, has_nul, is_crud, kept_len, last_crud_len};
 use gix_date::device::{Sink, put_all};
 use gix_date::{Time, parse_header};
@@ -16,7 +17,7 @@ pub struct SignatureRef<'a> {
     /// What stands before ` <`, which may be empty.
     pub name: &'a str,
     /// What stands between the brackets, which may be empty. Whether it is an address is not asked.
-    pub mail: &'a str,
+    pub email: &'a str,
     /// What stands after `> `, at least one byte: as Git writes it the text of a time in a commit header.
     pub time: &'a str,
 }
@@ -44,7 +45,10 @@ impl<'a> SignatureRef<'a> {
     fn are_allowed(self) -> bool
         ensures { result ≡ Spec.are_parts (Spec.parts_of self.entry) }
     {
-        is_part(self.name) && is_part(self.mail) && is_part(self.time) && !self.time.is_empty()
+        is_part(self.name.as_bytes())
+            && is_part(self.email.as_bytes())
+            && is_part(self.time.as_bytes())
+            && !self.time.is_empty()
     }
 }
 
@@ -53,8 +57,8 @@ fn cut_line(line: &str) -> Option<SignatureRef<'_>>
     ensures { MatchOption result (Spec.HasNoCut line.now) (λ s. Spec.IsCut line.now (Spec.parts_of s)) }
 {
     let (name, rest) = line.split_once(" <")?;
-    let (mail, time) = rest.split_once("> ")?;
-    let parts = SignatureRef { name, mail, time };
+    let (email, time) = rest.split_once("> ")?;
+    let parts = SignatureRef { name, email, time };
     if parts.are_allowed() {
         Some(parts)
     } else {
@@ -73,37 +77,57 @@ fn cut_line(line: &str) -> Option<SignatureRef<'_>>
 #[tactic(auto, using(crate::proofs::Written::wrote))]
 pub fn write_line<W: Sink>(
     name: &str,
-    mail: &str,
+    email: &str,
     time: Time,
     out: &mut W,
 ) -> Result<(), SignatureError>
-    ensures writes { Spec.WritesLine (Spec.line_due name.now mail.now time) (W.known out.old) (W.known out.new) result }
-    ensures cut { OnOk result ((line : List ℕ) × Spec.IsWritten name.now mail.now time line
+    ensures writes { Spec.WritesLine (Spec.line_due name.now email.now time) (W.known out.old) (W.known out.new) result }
+    ensures cut { OnOk result ((line : List ℕ) × Spec.IsWritten name.now email.now time line
         × GixDate.Takes (W.known out.old) (W.known out.new) line) }
 {
-    if !is_part(name) || !is_part(mail) {
+    if !is_part(name.as_bytes()) || !is_part(email.as_bytes()) {
         return Err(SignatureError::BadPart);
     }
     let Ok(buf) = time.to_buf() else {
         return Err(SignatureError::OffsetTooWide);
     };
-    put_parts(name.as_bytes(), mail.as_bytes(), buf.as_str(), true, out).map_err(
+    put_parts(name.as_bytes(), email.as_bytes(), buf.as_str(), true, out).map_err(
         SignatureError::Write,
     )
 }
 
 /// Whether a text may be a part of a line.
-fn is_part(text: &str) -> bool
+pub(crate) fn is_part(text: &[u8]) -> bool
     ensures { result ≡ Spec.is_part text.now }
 {
-    text.bytes().all(is_allowed)
+    text.iter().all(|b| is_allowed(*b))
 }
 
 /// Whether a byte may stand in a part of a line.
-fn is_allowed(byte: u8) -> bool
+pub(crate) fn is_allowed(byte: u8) -> bool
     ensures { result ≡ Spec.is_allowed byte }
 {
     !matches!(byte, b'<' | b'>' | b'\n' | b'\0')
+}
+
+/// Writes an identity line of parts as they are, without a newline: the name, ` <`, the email, `> `, and the time as
+/// [`GitTime::text`] gives it. The name and the email may be empty, and hold bytes from 128.
+///
+/// [`SignatureError::BadPart`] if the name or the email holds `<`, `>`, a newline or NUL: it writes no byte.
+/// [`SignatureError::Write`] carries the writer's fault after a proper prefix of the line. There is no flush.
+/// [`IdentRef::comes_back`](crate::IdentRef::comes_back) says whether a line that was read is written again so. Takes no memory.
+pub fn write_ident_as_is<W: Sink>(
+    name: &[u8],
+    email: &[u8],
+    time: GitTime,
+    out: &mut W,
+) -> Result<(), SignatureError>
+    ensures { Spec.WritesLine (Spec.as_is_due name.now email.now time) (W.known out.old) (W.known out.new) result }
+{
+    if !is_part(name) || !is_part(email) {
+        return Err(SignatureError::BadPart);
+    }
+    put_parts(name, email, time.text().as_str(), true, out).map_err(SignatureError::Write)
 }
 
 /// Writes the line that Git writes of a name, an email and a time, without a newline: the name and the email cleaned, and
@@ -117,13 +141,13 @@ fn is_allowed(byte: u8) -> bool
 #[tactic(auto, unfolding(crate::specs::ident_due))]
 pub fn write_ident<W: Sink>(
     name: &[u8],
-    mail: &[u8],
+    email: &[u8],
     time: Time,
     out: &mut W,
 ) -> Result<(), IdentFault>
-    ensures { Spec.WritesIdent (Spec.ident_due name.now mail.now time) (W.known out.old) (W.known out.new) result }
+    ensures { Spec.WritesIdent (Spec.ident_due name.now email.now time) (W.known out.old) (W.known out.new) result }
 {
-    if has_nul(name) || has_nul(mail) {
+    if has_nul(name) || has_nul(email) {
         return Err(IdentFault::NulInPart);
     }
     if name.is_empty() {
@@ -132,7 +156,7 @@ pub fn write_ident<W: Sink>(
     if is_crud_alone(name) {
         return Err(IdentFault::OnlyCrud);
     }
-    put_dated(name, mail, time, out)
+    put_dated(name, email, time, out)
 }
 
 fn is_crud_alone(text: &[u8]) -> bool
@@ -142,8 +166,8 @@ fn is_crud_alone(text: &[u8]) -> bool
 }
 
 /// Writes the line of a name and an email that may be written, or refuses the time.
-fn put_dated<W: Sink>(name: &[u8], mail: &[u8], time: Time, out: &mut W) -> Result<(), IdentFault>
-    ensures { Spec.WritesIdent (Spec.dated_line name.now mail.now time) (W.known out.old) (W.known out.new) result }
+fn put_dated<W: Sink>(name: &[u8], email: &[u8], time: Time, out: &mut W) -> Result<(), IdentFault>
+    ensures { Spec.WritesIdent (Spec.dated_line name.now email.now time) (W.known out.old) (W.known out.new) result }
 {
     if time.seconds < 0 {
         return Err(IdentFault::BeforeEpoch);
@@ -151,22 +175,22 @@ fn put_dated<W: Sink>(name: &[u8], mail: &[u8], time: Time, out: &mut W) -> Resu
     let Ok(buf) = time.to_buf() else {
         return Err(IdentFault::OffsetTooWide);
     };
-    put_parts(name, mail, buf.as_str(), false, out).map_err(IdentFault::Write)
+    put_parts(name, email, buf.as_str(), false, out).map_err(IdentFault::Write)
 }
 
 /// Puts the line of a name, an email and a time's text into a sink: name and email as they are, or cleaned.
 pub(crate) fn put_parts<W: Sink>(
     name: &[u8],
-    mail: &[u8],
+    email: &[u8],
     time: &str,
     is_whole: bool,
     out: &mut W,
 ) -> Result<(), io::ErrorKind>
-    ensures { Spec.Puts (W.known out.old) (W.known out.new) (Spec.line_of (Spec.parts_put is_whole name.now mail.now time.now)) result }
+    ensures { Spec.Puts (W.known out.old) (W.known out.new) (Spec.line_of (Spec.parts_put is_whole name.now email.now time.now)) result }
 {
     put_part(name, is_whole, out)?;
     put_bytes(b" <", out)?;
-    put_part(mail, is_whole, out)?;
+    put_part(email, is_whole, out)?;
     put_bytes(b"> ", out)?;
     put_bytes(time.as_bytes(), out)
 }
@@ -187,7 +211,7 @@ fn put_part<W: Sink>(part: &[u8], is_whole: bool, out: &mut W) -> Result<(), io:
     put_kept(trimmed(part), out)
 }
 
-/// A name or mail without crud at both ends. Git then leaves out the bytes that [`is_kept`] refuses. Takes no memory.
+/// A name or email without crud at both ends. Git then leaves out the bytes that [`is_kept`] refuses. Takes no memory.
 pub fn trimmed(part: &[u8]) -> &[u8]
     ensures { result.now ≡ Spec.trimmed part.now }
 {

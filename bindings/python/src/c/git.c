@@ -209,8 +209,7 @@ CALL(show_date)
     return answer;
 }
 
-/* Takes a GitTime. A Time has its offset in seconds, and is none. */
-static bool take_git_time(const struct state *state, PyObject *object, gix_date_git_time *time)
+bool take_git_time(const struct state *state, PyObject *object, gix_date_git_time *time)
 {
     if (!PyObject_TypeCheck(object, (PyTypeObject *)state->kept[GIT_TIME])) {
         PyErr_Format(PyExc_TypeError, "the time of a line has to be a GitTime, not %R", object);
@@ -218,9 +217,13 @@ static bool take_git_time(const struct state *state, PyObject *object, gix_date_
     }
     PyObject *seconds = PyObject_GetAttr(object, state->kept[NAME_SECONDS]);
     PyObject *offset = seconds ? PyObject_GetAttr(object, state->kept[NAME_OFFSET]) : NULL;
-    const bool taken = offset && take_int64(seconds, &time->seconds) && take_int32(offset, &time->offset);
+    PyObject *minus_zero = offset ? PyObject_GetAttr(object, state->kept[NAME_MINUS_ZERO]) : NULL;
+    const int is_minus_zero = minus_zero ? PyObject_IsTrue(minus_zero) : -1;
+    time->minus_zero = is_minus_zero > 0;
+    const bool taken = is_minus_zero >= 0 && take_int64(seconds, &time->seconds) && take_int32(offset, &time->offset);
     Py_XDECREF(seconds);
     Py_XDECREF(offset);
+    Py_XDECREF(minus_zero);
     return taken;
 }
 
@@ -264,4 +267,57 @@ CALL(age_of)
     }
     drop_moment(&moment);
     return answer;
+}
+
+CALL(parse_offset)
+{
+    static const struct call call = {"parse_offset", 1, 1, {"text", NULL}};
+    const struct state *state = state_of(module);
+    struct text text;
+    int32_t offset = 0;
+    PyObject *object, *answer;
+    if (!state || !take_arguments(&call, given, count, names, &object) || !take_text(object, &text))
+        return NULL;
+    const uint32_t status = git_date_parse_offset(text.at, text.len, &offset);
+    answer = status == GIX_DATE_OK ? PyLong_FromLong(offset) : refuse(state, status, &text, GIT_DATE_NOTHING);
+    drop_text(&text);
+    return answer;
+}
+
+static uint32_t call_offset_text(const struct writing *w, char *out, size_t out_len, size_t *len)
+{
+    return git_date_offset_text(w->time.offset, out, out_len, len);
+}
+
+CALL(offset_text)
+{
+    static const struct call call = {"offset_text", 1, 1, {"offset", NULL}};
+    const struct state *state = state_of(module);
+    struct writing writing = {.write = call_offset_text};
+    PyObject *object;
+    if (!state || !take_arguments(&call, given, count, names, &object) || !take_int32(object, &writing.time.offset))
+        return NULL;
+    return written(state, &writing);
+}
+
+CALL(offset_from_decimal)
+{
+    static const struct call call = {"offset_from_decimal", 1, 1, {"decimal", NULL}};
+    int32_t decimal;
+    PyObject *object;
+    (void)module;
+    if (!take_arguments(&call, given, count, names, &object) || !take_int32(object, &decimal))
+        return NULL;
+    return PyLong_FromLong(git_date_offset_from_decimal(decimal));
+}
+
+CALL(offset_to_decimal)
+{
+    static const struct call call = {"offset_to_decimal", 1, 1, {"offset", NULL}};
+    int32_t offset;
+    PyObject *object;
+    (void)module;
+    if (!take_arguments(&call, given, count, names, &object) || !take_int32(object, &offset))
+        return NULL;
+    return PyLong_FromLong(git_date_offset_to_decimal(offset));
 }

@@ -37,6 +37,7 @@ enum kept {
     NAME_MINUTE,
     NAME_SECOND,
     NAME_MICROSECOND,
+    NAME_MINUS_ZERO,
     /* what `connect` is given, in this order */
     MOMENT,
     READ_DATE,
@@ -123,6 +124,9 @@ extern PyType_Spec time_spec;
 PyObject *new_time(const struct state *state, const gix_date_time *time);
 bool take_time(const struct state *state, PyObject *object, gix_date_time *time);
 
+/* Takes a GitTime. A Time has its offset in seconds, and is none. */
+bool take_git_time(const struct state *state, PyObject *object, gix_date_git_time *time);
+
 /* ---- zones and moments ---- */
 
 extern PyType_Spec zone_spec;
@@ -149,7 +153,7 @@ struct writing {
     uint32_t (*write)(const struct writing *, char *out, size_t out_len, size_t *len);
     gix_date_time time;
     gix_date_git_time git_time; /* that of a line, where this is written */
-    const struct text *first, *second; /* a pattern, or a name and a mail */
+    const struct text *first, *second; /* a pattern, or a name and an email */
     uint32_t format;
     git_date_mode mode;
     size_t front;  /* so many bytes of `first` stand before a format of Git's */
@@ -159,6 +163,71 @@ struct writing {
 
 /* The text as a str, or a refusal that names `first` where that is a pattern or a format. */
 PyObject *written(const struct state *state, const struct writing *writing);
+
+/* ---- many lines ---- */
+
+/* A part of a text. */
+struct part {
+    const char *at, *end;
+};
+
+/* Takes the first line off a part, without its newline, which the last may lack. */
+struct part next_line(struct part *rest);
+
+/* The numbers that may be read of a line: of a time the first three. */
+enum column {
+    SECONDS,
+    OFFSETS,
+    STATUSES,
+    COLUMNS_OF_TIMES,
+    MESSAGES = COLUMNS_OF_TIMES,
+    STARTS, /* this one and those below are places in the source */
+    NAME_ENDS,
+    EMAIL_STARTS,
+    EMAIL_ENDS,
+    DATE_STARTS,
+    DATE_ENDS,
+    COLUMNS
+};
+
+/* How many bytes a number of a column has. */
+size_t width_of(enum column column);
+
+/* Lines that are read at once, and what is read of them: numbers as bytes of Python, and where these lie. What is left out is NULL. */
+struct piece {
+    struct part text;
+    Py_ssize_t count;
+    PyObject *bytes[COLUMNS];
+    void *numbers[COLUMNS];
+};
+
+/* Takes three arguments, bytes and two indices into these, between which the lines stand. */
+bool take_lines(PyObject *const *taken, struct piece *piece);
+
+/* Makes room for a number of each line, which is 0. */
+bool make_room(struct piece *piece, enum column column);
+
+void drop_piece(struct piece *piece);
+
+/* How a line was read, and the refusal of one that was refused. NULL with an exception if it cannot be made. */
+uint32_t status_of(const struct piece *piece, Py_ssize_t line);
+PyObject *refused_line(const struct state *state, uint32_t status, struct part line);
+
+/* Where the numbers of lines go, by their columns. All is borrowed. */
+struct outputs {
+    PyObject *each[COLUMNS]; /* lists or arrays, which grow, or views of memory; NULL for what is left out */
+    PyObject *so_far;        /* the refusals so far */
+    int64_t lines;           /* how many lines are done */
+    Py_ssize_t at;           /* the index of the next line */
+};
+
+/* Takes three arguments: a tuple of outputs, for so many columns from the first on, of which any may be None; how many numbers these had
+ * before; and the refusals so far. */
+bool take_outputs(const struct state *state, PyObject *const *taken, int columns, struct outputs *outputs);
+
+/* Puts the lines of a piece into the outputs, their refusals into those so far, and there how many lines are done: all or nothing, with no
+ * code of Python between. Answers the last as a number of Python. */
+PyObject *put_piece(const struct state *state, const struct piece *piece, const struct outputs *outputs);
 
 /* ---- calls of the module ---- */
 
@@ -172,8 +241,10 @@ CALL(parts_of);
 CALL(write_signature);
 CALL(cut_ident);
 CALL(ident_time);
+CALL(git_time_text);
 CALL(fsck_number);
 CALL(write_ident);
+CALL(write_ident_as_is);
 CALL(parse_date);
 CALL(approxidate);
 CALL(expiry_date);
@@ -181,8 +252,13 @@ CALL(mode_named);
 CALL(show_date);
 CALL(show_git_time);
 CALL(age_of);
+CALL(parse_offset);
+CALL(offset_text);
+CALL(offset_from_decimal);
+CALL(offset_to_decimal);
 CALL(times_of_lines);
 CALL(add_lines);
+CALL(add_idents);
 PyObject *zone_path(PyObject *module, PyObject *arguments);
 PyObject *zone_file(PyObject *module, PyObject *path);
 

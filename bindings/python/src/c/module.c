@@ -96,16 +96,19 @@ PyDoc_STRVAR(parse_carefully_doc,
 "253402300799 needs `@`: else it is `AfterYear9999`, since it may be milliseconds or digits of a date. The other refusals are those\n"
 "of `parse`.");
 
-PyDoc_STRVAR(write_signature_doc, "write_signature($module, /, name, mail, time)\n--\n\n"
-"The signature line of a name, a mail and a time, without a newline.\n\nRefuses by `NotText`, `BadPart` and `OffsetTooWide`.");
+PyDoc_STRVAR(write_signature_doc, "write_signature($module, /, name, email, time)\n--\n\n"
+"The signature line of a name, an email and a time, without a newline.\n\nRefuses by `NotText`, `BadPart` and `OffsetTooWide`.");
 
-PyDoc_STRVAR(write_ident_doc, "write_ident($module, /, name, mail, time)\n--\n\n"
-"The identity line that Git writes of a name, a mail and a time, as bytes without a newline.\n\n"
-"Name and mail lose crud at both ends: bytes from 1 to 32, and each of . , : ; < > \" \\ and '. Then they lose `<`, `>` and newlines.\n"
+PyDoc_STRVAR(write_ident_doc, "write_ident($module, /, name, email, time)\n--\n\n"
+"The identity line that Git writes of a name, an email and a time, as bytes without a newline.\n\n"
+"Name and email lose crud at both ends: bytes from 1 to 32, and each of . , : ; < > \" \\ and '. Then they lose `<`, `>` and newlines.\n"
 "Refuses by `NulInPart`, `EmptyName`, `OnlyCrud`, `BeforeEpoch` and `OffsetTooWide`, in this order.");
 
+PyDoc_STRVAR(write_ident_as_is_doc, "write_ident_as_is($module, /, name, email, time)\n--\n\n"
+"The identity line of a name, an email and a `GitTime` as they are, as bytes without a newline.\n\nRefuses by `BadPart`.");
+
 PyDoc_STRVAR(parse_date_doc, "parse_date($module, /, text, now)\n--\n\n"
-"Reads a date as Git's exact reader does: a `ReadDate`.\n\nRefuses by `Unreadable`, `NumberTooLarge`, `YearRefused` and `Range`.");
+"Reads a date as Git's exact reader does: a `ExactDate`.\n\nRefuses by `Unreadable`, `NumberTooLarge`, `YearRefused` and `Range`.");
 
 PyDoc_STRVAR(approxidate_doc, "approxidate($module, /, text, now)\n--\n\n"
 "Reads a date as people write it: an `Approximate`. A word that Git does not know is ignored: `5 mins ago` is the fifth.\n\n"
@@ -125,11 +128,28 @@ PyDoc_STRVAR(show_git_time_doc, "show_git_time($module, /, time, mode, now)\n--\
 "The mode is a `DateMode`, a `DateKind`, or Git's name.\n\n"
 "Refuses by `Range`, `BeforeEpoch` and `OffsetTooWide`, and by `UnknownMode` a name.");
 
+PyDoc_STRVAR(parse_offset_doc, "parse_offset($module, /, text)\n--\n\n"
+"The seconds east of UTC of an offset: a sign, two digits of hours to 25, and perhaps two of minutes, with a colon before them or\n"
+"without, as in `-03:30`.\n\nRefuses by `InvalidZone` any other text.");
+
+PyDoc_STRVAR(offset_text_doc, "offset_text($module, /, offset)\n--\n\n"
+"The text of an offset in seconds east of UTC, as Git writes it: a sign, hours in two digits or more, and two digits of minutes, as in\n"
+"`+0530`. Seconds beyond whole minutes are dropped.");
+
+PyDoc_STRVAR(offset_from_decimal_doc, "offset_from_decimal($module, /, decimal)\n--\n\n"
+"The offset in seconds that a number says as Git's own code has it: hours and two digits of minutes, as -130 of `-0130`. One of more than\n"
+"2147483647 seconds is that many.");
+
+PyDoc_STRVAR(offset_to_decimal_doc, "offset_to_decimal($module, /, offset)\n--\n\n"
+"The number that says an offset so, without the seconds beyond whole minutes: -130 of -5400.");
+
 PyDoc_STRVAR(age_of_doc, "age_of($module, /, time, now)\n--\n\nThe unit of an age, its count, and the months beyond years.");
-PyDoc_STRVAR(cut_signature_doc, "cut_signature($module, /, line)\n--\n\nThe name, the mail and the time of a signature line.");
+PyDoc_STRVAR(cut_signature_doc, "cut_signature($module, /, line)\n--\n\nThe name, the email and the time of a signature line.");
 PyDoc_STRVAR(cut_ident_doc, "cut_ident($module, /, line)\n--\n\n"
-"The name, the mail, the seconds and the offset of an identity line, and the time that Git shows.");
+"The name, the email, the rest, the seconds and the offset of an identity line, the time that Git shows or None, whether the line comes\n"
+"back, and the indices of its parts.");
 PyDoc_STRVAR(ident_time_doc, "ident_time($module, /, seconds, offset)\n--\n\nThe time of Git's seconds and decimal offset.");
+PyDoc_STRVAR(git_time_text_doc, "git_time_text($module, /, time)\n--\n\nThe text of a GitTime in an identity line.");
 PyDoc_STRVAR(fsck_number_doc, "fsck_number($module, /, line)\n--\n\n"
 "The number of what git fsck says of an identity line, which is 0 for nothing, and the index of what is wrong, or None.");
 PyDoc_STRVAR(parts_of_doc, "parts_of($module, /, at)\n--\n\n"
@@ -140,6 +160,8 @@ PyDoc_STRVAR(times_of_lines_doc, "times_of_lines($module, /, reader, data, begin
 "A Time or a refusal of each line from an index to another.");
 PyDoc_STRVAR(add_lines_doc, "add_lines($module, /, outputs, begin, so_far, reader, data, first, end, now, raw_offsets)\n--\n\n"
 "Puts the lines from an index to another into two outputs, and their refusals into those so far. How many lines are done.");
+PyDoc_STRVAR(add_idents_doc, "add_idents($module, /, outputs, begin, so_far, front, data, first, end)\n--\n\n"
+"The same of identity lines, for ten outputs of which any may be None. The data stand at an index of the source.");
 PyDoc_STRVAR(zone_path_doc, "The path of the file that says the zone of a TZ and a TZDIR. It is empty if none does.");
 PyDoc_STRVAR(zone_file_doc, "The bytes of the file at a path; none if there is no file, and None if it may not be read as a zone.");
 PyDoc_STRVAR(connect_package_doc, "Keeps the classes, options and functions of the package that the calls use.");
@@ -150,10 +172,11 @@ PyDoc_STRVAR(versions_doc, "The versions of the library and of what it ports, as
 static PyMethodDef calls[] = {
     AS_CALL(parse_header), AS_CALL(is_canonical_header), AS_CALL(parse), AS_CALL(parse_carefully), AS_CALL(parts_of),
     AS_CALL(cut_signature), AS_CALL(write_signature),
-    AS_CALL(cut_ident), AS_CALL(ident_time), AS_CALL(fsck_number), AS_CALL(write_ident),
+    AS_CALL(cut_ident), AS_CALL(ident_time), AS_CALL(git_time_text), AS_CALL(fsck_number), AS_CALL(write_ident), AS_CALL(write_ident_as_is),
     AS_CALL(parse_date), AS_CALL(approxidate), AS_CALL(expiry_date), AS_CALL(mode_named), AS_CALL(show_date),
     AS_CALL(show_git_time), AS_CALL(age_of),
-    AS_CALL(times_of_lines), AS_CALL(add_lines),
+    AS_CALL(parse_offset), AS_CALL(offset_text), AS_CALL(offset_from_decimal), AS_CALL(offset_to_decimal),
+    AS_CALL(times_of_lines), AS_CALL(add_lines), AS_CALL(add_idents),
     {"connect", (PyCFunction)(void (*)(void))connect_package, METH_FASTCALL | METH_KEYWORDS, connect_package_doc},
     {"zone_path", zone_path, METH_VARARGS, zone_path_doc},
     {"zone_file", zone_file, METH_O, zone_file_doc},
@@ -173,7 +196,7 @@ static bool keep_names(struct state *state)
 {
     static const char *names[] = {"time", "has_offset", "understood", "ignored", "kind", "local", "offset", "lines", "format", "cast",
                                   "frombytes", "utcoffset", "days", "seconds", "microseconds", "toordinal", "hour", "minute", "second",
-                                  "microsecond"};
+                                  "microsecond", "minus_zero"};
     for (int i = 0; i < CONNECTED - NAME_TIME; i++) {
         state->kept[NAME_TIME + i] = PyUnicode_InternFromString(names[i]);
         if (state->kept[NAME_TIME + i] == NULL)

@@ -107,8 +107,8 @@ CALL(cut_signature)
         return NULL;
     const uint32_t status = gix_date_cut_signature(line.at, line.len, &parts);
     if (status == GIX_DATE_OK)
-        answer = Py_BuildValue("(s#s#s#)", line.at + parts.name.start, (Py_ssize_t)parts.name.len, line.at + parts.mail.start,
-                               (Py_ssize_t)parts.mail.len, line.at + parts.time.start, (Py_ssize_t)parts.time.len);
+        answer = Py_BuildValue("(s#s#s#)", line.at + parts.name.start, (Py_ssize_t)parts.name.len, line.at + parts.email.start,
+                               (Py_ssize_t)parts.email.len, line.at + parts.time.start, (Py_ssize_t)parts.time.len);
     else
         answer = refuse(state, status, &line, GIT_DATE_NOTHING);
     drop_text(&line);
@@ -122,17 +122,17 @@ static uint32_t call_write_signature(const struct writing *w, char *out, size_t 
 
 CALL(write_signature)
 {
-    enum { NAME, MAIL, AT_TIME, ALL };
-    static const struct call call = {"write_signature", 3, 3, {"name", "mail", "time", NULL}};
+    enum { NAME, EMAIL, AT_TIME, ALL };
+    static const struct call call = {"write_signature", 3, 3, {"name", "email", "time", NULL}};
     const struct state *state = state_of(module);
-    struct text name = {.at = NULL}, mail = {.at = NULL};
-    struct writing writing = {.write = call_write_signature, .first = &name, .second = &mail};
+    struct text name = {.at = NULL}, email = {.at = NULL};
+    struct writing writing = {.write = call_write_signature, .first = &name, .second = &email};
     PyObject *taken[ALL], *answer = NULL;
     if (!state || !take_arguments(&call, given, count, names, taken))
         return NULL;
-    if (take_text(taken[NAME], &name) && take_text(taken[MAIL], &mail) && take_time(state, taken[AT_TIME], &writing.time))
+    if (take_text(taken[NAME], &name) && take_text(taken[EMAIL], &email) && take_time(state, taken[AT_TIME], &writing.time))
         answer = written(state, &writing);
     drop_text(&name);
-    drop_text(&mail);
+    drop_text(&email);
     return answer;
 }

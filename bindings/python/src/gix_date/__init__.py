@@ -5,7 +5,8 @@ or bytes. A moment is an aware datetime, or a `Moment`. A refusal is a class bel
 `gix_date.UnknownFormat`; help(gix_date.errors) lists them. Refused memory is MemoryError. Nothing prints, and only `now` reads the clock
 and the machine's zone. Many threads may call at once.
 
-The module `gix_date.git` reads and shows dates as Git itself does.
+The module `gix_date.git` reads and shows dates as Git itself does. The wheel of an archive has pages and examples in the folder `pages`
+beside this file.
 
 >>> from gix_date import ISO8601, parse, parse_header
 >>> time = parse_header("1660797906 +0800")
@@ -43,11 +44,12 @@ from .errors import Range as Range
 from .errors import Unclear as Unclear
 from .errors import UnknownFormat as UnknownFormat
 from .errors import ZoneCountsLeapSeconds as ZoneCountsLeapSeconds
-from .lines import Refused, parse_headers_into, parse_lines, parse_lines_into, parse_signatures_into
+from .lines import Refused, parse_headers_into, parse_idents_into, parse_lines, parse_lines_into, parse_signatures_into
 from .moments import Moment, now
 from .options import Format, RawOffsets, Texts, WithoutOffset
 from .reading import is_canonical_header, parse, parse_carefully, parse_header
-from .signatures import FsckFault, FsckId, GitTime, Ident, IdentDate, Signature, fsck, parse_ident, write_ident, write_signature
+from .signatures import FsckFault, FsckId, GitTime, Ident, IdentDate, IdentPlaces, Signature
+from .signatures import fsck, parse_ident, write_ident, write_ident_as_is, write_signature
 from .times import Time
 
 # Made by scripts/formats.
@@ -59,7 +61,7 @@ UNIX, RAW, SHORT, RFC2822, GIT_RFC2822, ISO8601, ISO8601_STRICT, GITOXIDE, DEFAU
 
 _library.connect(
     moment=Moment,
-    read_date=git.ReadDate,
+    read_date=git.ExactDate,
     approximate=git.Approximate,
     date_mode=git.DateMode,
     git_time=GitTime,
@@ -86,7 +88,8 @@ __version__, PORTED_VERSION = (_version(number) for number in _library.versions(
 
 __all__ = [
     "DEFAULT", "Format", "FsckFault", "FsckId", "GITOXIDE", "GIT_RFC2822", "GitTime", "GixDateError", "ISO8601", "ISO8601_STRICT", "Ident",
-    "IdentDate", "Moment", "PORTED_VERSION", "RAW", "RFC2822", "RawOffsets", "Refused", "SHORT", "Signature", "Texts", "Time", "UNIX",
-    "WithoutOffset", "fsck", "git", "is_canonical_header", "now", "parse", "parse_carefully", "parse_header", "parse_headers_into",
-    "parse_ident", "parse_lines", "parse_lines_into", "parse_signatures_into", "write_ident", "write_signature",
+    "IdentDate", "IdentPlaces", "Moment", "PORTED_VERSION", "RAW", "RFC2822", "RawOffsets", "Refused", "SHORT", "Signature", "Texts",
+    "Time", "UNIX", "WithoutOffset", "fsck", "git", "is_canonical_header", "now", "parse", "parse_carefully", "parse_header",
+    "parse_headers_into", "parse_ident", "parse_idents_into", "parse_lines", "parse_lines_into", "parse_signatures_into", "write_ident",
+    "write_ident_as_is", "write_signature",
 ]  # fmt: skip

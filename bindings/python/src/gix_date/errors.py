@@ -114,7 +114,7 @@ class NoSignature(GixDateError):
 
 
 class BadPart(GixDateError):
-    """The name or the mail holds `<`, `>`, a newline or NUL."""
+    """The name or the email holds `<`, `>`, a newline or NUL."""
 
     status = 16
 
@@ -138,7 +138,7 @@ class NoIdentity(GixDateError):
 
 
 class NulInPart(GixDateError):
-    """The name or the mail of an identity line to write holds NUL."""
+    """The name or the email of an identity line to write holds NUL."""
 
     status = 28
 

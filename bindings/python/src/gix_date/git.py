@@ -1,10 +1,12 @@
 """Dates as Git 2.39.5 itself reads and shows them.
 
 - `parse_date`: exact dates, as in `GIT_COMMITTER_DATE`, in mails, and nearly all of `git commit --date`
-- `approxidate`: dates as people write them, as Git reads `--since` and `REF@{..}`; `approxidate_lines`: those of many lines
+- `approxidate`: dates as people write them, as Git reads `--since` and `REF@{..}`
+- `parse_date_lines`, `approxidate_lines`: both of many lines; `parse_date_lines_into`, `approxidate_lines_into`: into two outputs
 - `expiry_date`: what expires, as in `gc.pruneExpire`
 - `show_date`: a date as `git log --date=MODE` shows it, also by `format:%Y-%m-%d`
 - `show_git_time`: the date of an identity line so, with the offset that the line writes
+- `parse_offset`, `offset_text`: an offset alone, as `+0530`; `offset_from_decimal`, `offset_to_decimal`: as Git's own code has it, as 530
 
 Each call has a moment, an aware datetime or a `Moment`, in whose zone a text without an offset is read. docs/GIT_DATES.md has the rules.
 All refuse the moment by `NaiveDatetime`, `InvalidInstant` and `InvalidZone`. A text may be any bytes, as in Git, and ends before its first
@@ -18,9 +20,19 @@ from enum import Enum
 from typing import Dict, Optional, Type
 
 from . import _library
-from ._library import approxidate, expiry_date, parse_date, show_date, show_git_time
+from ._library import (
+    approxidate,
+    expiry_date,
+    offset_from_decimal,
+    offset_text,
+    offset_to_decimal,
+    parse_date,
+    parse_offset,
+    show_date,
+    show_git_time,
+)
 from .errors import REFUSALS, GixDateError, Text, named
-from .lines import approxidate_lines
+from .lines import approxidate_lines, approxidate_lines_into, parse_date_lines, parse_date_lines_into
 from .moments import Now
 from .times import Time
 
@@ -91,7 +103,7 @@ ALL_REFUSALS[2] = UnknownMode  # the library tells an unknown mode by its status
 
 
 @dataclass(frozen=True)
-class ReadDate:
+class ExactDate:
     """What `parse_date` reads.
 
     - time: its offset has whole minutes
@@ -111,7 +123,7 @@ class Approximate:
     - time: its offset is the zone's, or the one that an exact date says
     - understood: whether anything was understood. If not, the time is the moment, if the zone's clock
       finds it again.
-    - ignored: as in `ReadDate`
+    - ignored: as in `ExactDate`
     """
 
     time: Time
@@ -213,7 +225,8 @@ class DateMode:
 
 
 __all__ = [
-    "Age", "AgeUnit", "Approximate", "BackTooFar", "DateKind", "DateMode", "Expires", "FlagRefused", "NumberTooLarge", "Range", "ReadDate",
-    "UnknownDirective", "UnknownMode", "Unreadable", "WidthTooLarge", "YearRefused", "age_at", "approxidate", "approxidate_lines", "expiry_date", "parse_date", "show_date",
-    "show_git_time",
+    "Age", "AgeUnit", "Approximate", "BackTooFar", "DateKind", "DateMode", "ExactDate", "Expires", "FlagRefused", "NumberTooLarge", "Range",
+    "UnknownDirective", "UnknownMode", "Unreadable", "WidthTooLarge", "YearRefused", "age_at", "approxidate", "approxidate_lines",
+    "approxidate_lines_into", "expiry_date", "offset_from_decimal", "offset_text", "offset_to_decimal", "parse_date", "parse_date_lines",
+    "parse_date_lines_into", "parse_offset", "show_date", "show_git_time",
 ]  # fmt: skip

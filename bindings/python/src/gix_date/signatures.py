@@ -1,7 +1,8 @@
 """Signature lines of commits and tags, and identity lines as Git itself shows, judges and writes them.
 
 `Signature` takes only lines that Git writes. Histories have others: `parse_ident` answers what `git log` shows of any, and `fsck` what
-`git fsck` says of it. Their texts may be any bytes.
+`git fsck` says of it. `write_ident` cleans a name and an email as `git commit` does, and `write_ident_as_is` takes them as they are. Their
+texts may be any bytes.
 """
 
 from __future__ import annotations
@@ -11,7 +12,7 @@ from enum import Enum
 from typing import Optional
 
 from . import _library
-from ._library import parse_header, write_ident, write_signature
+from ._library import parse_header, write_ident, write_ident_as_is, write_signature
 from .errors import Text
 from .times import Time
 
@@ -21,12 +22,12 @@ class Signature:
     """The parts of a signature line, `A U Thor <author@example.com> 1660797906 +0800`. `str` of it is the line.
 
     - name: what stands before ` <`, which may be empty
-    - mail: what stands between the brackets, which may be empty
+    - email: what stands between the brackets, which may be empty
     - time: what stands after `> `; `read_time` reads it
     """
 
     name: str
-    mail: str
+    email: str
     time: str
 
     @classmethod
@@ -39,25 +40,30 @@ class Signature:
         return parse_header(self.time)
 
     def __str__(self) -> str:
-        return f"{self.name} <{self.mail}> {self.time}"
+        return f"{self.name} <{self.email}> {self.time}"
 
 
 @dataclass(frozen=True)
 class GitTime:
-    """A time as Git keeps it of an identity line.
+    """A time as Git keeps it of an identity line. `str` of it is its text in a line, `5 +0530`.
 
     - seconds: seconds since 1970, of a line from 0
     - offset: one decimal number, hours before the last two digits, minutes in them: `+0530` is 530
+    - minus_zero: whether a minus stands before an offset of 0, as in `-0000`; beside another offset it means nothing
 
     `git.show_git_time` shows it.
     """
 
     seconds: int
     offset: int
+    minus_zero: bool = False
 
     def to_time(self) -> Time:
         """The time of these: `+0060` is an hour. Refuses by `OffsetTooWide` an offset of more than 35791394 minutes."""
         return _library.ident_time(self.seconds, self.offset)
+
+    def __str__(self) -> str:
+        return _library.git_time_text(self)
 
 
 @dataclass(frozen=True)
@@ -75,17 +81,41 @@ class IdentDate:
 
 
 @dataclass(frozen=True)
+class IdentPlaces:
+    """Where the parts of an identity line stand, as indices into the bytes or the str that was read. The name stands at 0.
+
+    - email: after the first `<`
+    - rest: after the email and its `>`
+    - seconds: after the last `>` and blanks; without a date they would stand there
+    - offset: after the digits of the seconds and blanks; without a date it would stand there
+    - end: where the line ends, before its newline or NUL
+    """
+
+    email: int
+    rest: int
+    seconds: int
+    offset: int
+    end: int
+
+
+@dataclass(frozen=True)
 class Ident:
     """What Git shows of an identity line.
 
     - name: what stands before the first `<`, without the blanks at its end; it may be empty
-    - mail: what stands between the first `<` and the next `>`, which may be empty
+    - email: what stands between the first `<` and the next `>`, which may be empty
+    - rest: what follows the email and its `>`, to the line's end
     - date: the date after the last `>`, or None where Git shows none
+    - comes_back: whether `write_ident_as_is` of the name, the email and the time that is shown writes the same line; False without a date
+    - places: where these stand
     """
 
     name: bytes
-    mail: bytes
+    email: bytes
+    rest: bytes
     date: Optional[IdentDate]
+    comes_back: bool
+    places: IdentPlaces
 
 
 def parse_ident(line: Text) -> Ident:
@@ -93,9 +123,9 @@ def parse_ident(line: Text) -> Ident:
 
     Refuses by `NoIdentity` a line without `<`, or without `>` after the first.
     """
-    name, mail, seconds, offset, shown_seconds, shown_offset = _library.cut_ident(line)
-    date = IdentDate(seconds, offset, GitTime(shown_seconds, shown_offset)) if seconds else None
-    return Ident(name, mail, date)
+    name, email, rest, seconds, offset, shown, comes_back, places = _library.cut_ident(line)
+    date = IdentDate(seconds, offset, GitTime(*shown)) if shown else None
+    return Ident(name, email, rest, date, comes_back, IdentPlaces(*places))
 
 
 class FsckId(Enum):
@@ -149,5 +179,6 @@ def fsck(line: Text) -> Optional[FsckFault]:
 
 
 __all__ = [
-    "FsckFault", "FsckId", "GitTime", "Ident", "IdentDate", "Signature", "fsck", "parse_ident", "write_ident", "write_signature",
+    "FsckFault", "FsckId", "GitTime", "Ident", "IdentDate", "IdentPlaces", "Signature", "fsck", "parse_ident", "write_ident",
+    "write_ident_as_is", "write_signature",
 ]  # fmt: skip

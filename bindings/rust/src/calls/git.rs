@@ -4,7 +4,7 @@ use super::zone::HeldZone;
 use super::{text_or, FORMAT_ROOM, NO_SUCH_OPTION, OK};
 use crate::ffi::{CGitTime, CZone};
 use crate::git::{
-    Age, Approximate, DateError, DateKind, DateMode, Expiry, FormatFault, OwnDateError, ReadDate,
+    Age, Approximate, DateError, DateKind, DateMode, ExactDate, Expiry, FormatFault, OwnDateError,
     UnknownMode, MAX_SHOWN,
 };
 use crate::git_ffi::{self as ffi, CAge, CApproximate, CExact, CExpiry, CMode};
@@ -50,9 +50,9 @@ fn place_of(ignored: usize) -> Option<usize> {
     (ignored != NOTHING).then_some(ignored)
 }
 
-impl From<CExact> for ReadDate {
-    fn from(date: CExact) -> ReadDate {
-        ReadDate {
+impl From<CExact> for ExactDate {
+    fn from(date: CExact) -> ExactDate {
+        ExactDate {
             time: date.time,
             has_offset: date.has_offset,
             ignored: place_of(date.ignored),
@@ -85,8 +85,8 @@ pub(crate) fn parse_date(
     text: &[u8],
     now: Instant,
     zone: &HeldZone,
-) -> Result<ReadDate, DateError> {
-    read(ffi::git_date_parse_at, text, now, zone).map(ReadDate::from)
+) -> Result<ExactDate, DateError> {
+    read(ffi::git_date_parse_at, text, now, zone).map(ExactDate::from)
 }
 
 pub(crate) fn approxidate(
@@ -241,14 +241,31 @@ pub(crate) fn age_at(time: &Time, now: Instant) -> Result<Option<Age>, DateError
     stored(status, age, 0).map(age_of)
 }
 
-pub(crate) fn offset_of_decimal(decimal: i32) -> OffsetInSeconds {
-    // SAFETY: the call takes a number.
-    unsafe { ffi::git_date_offset_of_decimal(decimal) }
+pub(crate) fn parse_offset(text: &[u8]) -> Result<OffsetInSeconds, Error> {
+    let mut offset = 0;
+    // SAFETY: the text is valid for its length, and the offset is a place of its own.
+    let status = unsafe { ffi::git_date_parse_offset(text.as_ptr(), text.len(), &mut offset) };
+    super::stored(status, offset)
 }
 
-pub(crate) fn decimal_of_offset(offset: OffsetInSeconds) -> i32 {
+/// The length of an offset's text that now stands at the front of the buffer, which has room for each.
+pub(crate) fn offset_text(offset: OffsetInSeconds, out: &mut [u8; MAX_SHOWN]) -> usize {
+    let mut len = 0;
+    // SAFETY: the buffer, of the length given, and the length are places of their own.
+    let status =
+        unsafe { ffi::git_date_offset_text(offset, out.as_mut_ptr(), out.len(), &mut len) };
+    debug_assert_eq!(status, OK);
+    len
+}
+
+pub(crate) fn offset_from_decimal(decimal: i32) -> OffsetInSeconds {
     // SAFETY: the call takes a number.
-    unsafe { ffi::git_date_decimal_of_offset(offset) }
+    unsafe { ffi::git_date_offset_from_decimal(decimal) }
+}
+
+pub(crate) fn offset_to_decimal(offset: OffsetInSeconds) -> i32 {
+    // SAFETY: the call takes a number.
+    unsafe { ffi::git_date_offset_to_decimal(offset) }
 }
 
 #[cfg(test)]

@@ -3,7 +3,7 @@
 use super::zone::HeldZone;
 use crate::ffi::{self, CCarefulOptions, CZone};
 use crate::git_ffi;
-use crate::lines::{Columns, Done, LineReader, Status};
+use crate::lines::{Columns, Done, IdentColumns, LineReader, Status};
 use crate::{CarefulOptions, Instant};
 
 /// The number of a reader, and its options.
@@ -99,6 +99,37 @@ pub(crate) fn check_lines(block: &[u8], canonical: &mut [bool]) -> Done {
     let lines = unsafe {
         let (start, len) = (block.as_ptr(), block.len());
         ffi::gix_date_check_lines(start, len, cells, canonical.len(), &mut bytes)
+    };
+    Done { lines, bytes }
+}
+
+pub(crate) fn ident_lines(block: &[u8], columns: IdentColumns<'_>) -> Done {
+    let IdentColumns {
+        parts,
+        seconds,
+        offsets,
+        messages,
+        statuses,
+    } = columns;
+    let mut bytes = 0;
+    // SAFETY: block and arrays are valid for their lengths, and the arrays and the count are places of their own. Parts and messages are
+    // laid out as what they hold.
+    let lines = unsafe {
+        ffi::gix_date_ident_lines(
+            block.as_ptr(),
+            block.len(),
+            parts.as_mut_ptr().cast(),
+            parts.len(),
+            seconds.as_mut_ptr(),
+            seconds.len(),
+            offsets.as_mut_ptr(),
+            offsets.len(),
+            messages.as_mut_ptr().cast(),
+            messages.len(),
+            start_of(statuses),
+            statuses.len(),
+            &mut bytes,
+        )
     };
     Done { lines, bytes }
 }

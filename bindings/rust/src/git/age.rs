@@ -1,7 +1,7 @@
-//! Ages, and offsets as Git's own code has them.
+//! Ages.
 
 use crate::git::DateError;
-use crate::{calls, Instant, OffsetInSeconds, Time};
+use crate::{calls, Instant, Time};
 
 /// How long ago a time was, in the unit that Git chooses for it.
 #[derive(Clone, Copy, Debug, PartialEq, Eq, Hash)]
@@ -38,22 +38,4 @@ pub enum Age {
 /// [`DateError::Range`] for a time or a moment before 1970; [`DateError::Refused`] of the instant.
 pub fn age_at(time: Time, now: Instant) -> Result<Option<Age>, DateError> {
     calls::git::age_at(&time, now)
-}
-
-/// The offset that a number says as Git's own code has it: hours and two digits of minutes, west of UTC below 0. One of more
-/// than 2147483647 seconds is that many, and no date is shown with it.
-///
-/// ```
-/// use gix_date_proved::git::offset_of_decimal;
-///
-/// // `-0130`
-/// assert_eq!(offset_of_decimal(-130), -5400);
-/// ```
-pub fn offset_of_decimal(decimal: i32) -> OffsetInSeconds {
-    calls::git::offset_of_decimal(decimal)
-}
-
-/// The number that says an offset so: -130 of -5400. Seconds beyond whole minutes are dropped.
-pub fn decimal_of_offset(offset: OffsetInSeconds) -> i32 {
-    calls::git::decimal_of_offset(offset)
 }

@@ -3,7 +3,7 @@
 use super::{DateError, DateMode, OwnDateError};
 use crate::calls::{self, zone::HeldZone};
 use crate::signature::GitTime;
-use crate::{Instant, Time};
+use crate::{Instant, OffsetInSeconds, Time};
 use std::fmt;
 use std::hash::{Hash, Hasher};
 use std::ops::Deref;
@@ -12,7 +12,7 @@ use std::ops::Deref;
 /// offset.
 pub(crate) const MAX_SHOWN: usize = 35;
 
-/// A shown date, in a buffer of its own: a `str` of ASCII, of at most 31 bytes, or 35 for the date of a line.
+/// A shown date or offset, in a buffer of its own: a `str` of ASCII, of at most 31 bytes, or 35 for the date of a line.
 #[derive(Clone, Copy)]
 pub struct DateText {
     bytes: [u8; MAX_SHOWN],
@@ -40,6 +40,12 @@ impl DateText {
         let mut bytes = [0; MAX_SHOWN];
         let len = calls::git::show_git_time(time, mode, now, zone, &mut bytes)?;
         Ok(DateText { bytes, len })
+    }
+
+    pub(crate) fn of_offset(offset: OffsetInSeconds) -> DateText {
+        let mut bytes = [0; MAX_SHOWN];
+        let len = calls::git::offset_text(offset, &mut bytes);
+        DateText { bytes, len }
     }
 
     /// The text.

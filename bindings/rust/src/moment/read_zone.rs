@@ -3,7 +3,7 @@
 use super::Instant;
 use crate::calls::{self, zone::HeldZone};
 use crate::git::{
-    Approximate, DateError, DateFormat, DateMode, DateText, Expiry, OwnDateError, ReadDate,
+    Approximate, DateError, DateFormat, DateMode, DateText, ExactDate, Expiry, OwnDateError,
 };
 use crate::lines::{Columns, Done, LineReader};
 use crate::signature::GitTime;
@@ -77,7 +77,11 @@ impl ReadZone {
     }
 
     /// Reads a date as [`git::parse_date()`](crate::git::parse_date) does.
-    pub fn parse_date(&self, input: impl AsRef<[u8]>, now: Instant) -> Result<ReadDate, DateError> {
+    pub fn parse_date(
+        &self,
+        input: impl AsRef<[u8]>,
+        now: Instant,
+    ) -> Result<ExactDate, DateError> {
         calls::git::parse_date(input.as_ref(), now, &self.0)
     }
 

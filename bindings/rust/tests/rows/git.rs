@@ -3,8 +3,8 @@
 use super::{in_read_zone, now, text, time, Answer};
 use gix_date_proved::git::{
     age_at, approxidate, expiry_date, parse_date, show_by_format, show_date, show_git_time, Age,
-    Approximate, DateError, DateFormat, DateKind, DateMode, DateText, Expiry, FormatFault,
-    OwnDateError, ReadDate,
+    Approximate, DateError, DateFormat, DateKind, DateMode, DateText, ExactDate, Expiry,
+    FormatFault, OwnDateError,
 };
 use gix_date_proved::signature::GitTime;
 use gix_date_proved::{bytes, Instant, Moment, ReadZone, Time};
@@ -32,7 +32,7 @@ pub fn answer(call: &str, row: &mut &[String]) -> Option<Answer> {
             let mode = text(row)?.parse().ok()?;
             let moment = moment(text(row)?)?;
             let Time { seconds, offset } = time(row)?;
-            Some(of_line(GitTime { seconds, offset }, mode, &moment))
+            Some(of_line(GitTime::new(seconds, offset), mode, &moment))
         }
         "show_by_format" => {
             let (format, clock) = (text(row)?, text(row)?);
@@ -142,7 +142,7 @@ fn all<T, const N: usize>(
     at_moment.into_iter().chain(in_zone).collect()
 }
 
-fn exact(row: &mut &[String]) -> Option<All<ReadDate>> {
+fn exact(row: &mut &[String]) -> Option<All<ExactDate>> {
     let (moment, text) = (moment(text(row)?)?, text(row)?);
     let of_bytes = bytes::parse_date(text.as_bytes(), &moment);
     let answers = [parse_date(text, &moment), of_bytes];

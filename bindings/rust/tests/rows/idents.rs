@@ -1,7 +1,7 @@
 //! The calls of rows for identity lines.
 
 use super::{readable, Answer};
-use gix_date_proved::signature::{fsck, write_ident, DateRef, IdentRef};
+use gix_date_proved::signature::{fsck, write_ident, write_ident_as_is, DateRef, IdentRef};
 use gix_date_proved::Time;
 use std::str::from_utf8;
 
@@ -11,13 +11,14 @@ pub fn answer(fields: &[Vec<u8>]) -> Option<Answer> {
     match (from_utf8(call).ok()?, arguments) {
         ("ident", [line]) => Some(parts(line, b"<", |date| date.seconds)),
         ("ident_label", [line]) => Some(parts(line, b" <", |_| b"")),
+        ("ident_again", [line]) => Some(again(line)),
         ("ident_offset", [line]) => Some(date(line).map(|date| readable(date.offset.to_vec()))),
         ("git_time", [line]) => Some(date(line).map(shown)),
         ("ident_time", [line]) => Some(date(line).and_then(time)),
         ("fsck_of", [line]) => Some(message(line)),
-        ("write_ident", [name, mail, seconds, offset]) => {
+        ("write_ident", [name, email, seconds, offset]) => {
             let time = Time::new(number(seconds)?, number(offset)?);
-            let line = write_ident(name, mail, time);
+            let line = write_ident(name, email, time);
             Some(line.map(readable).map_err(|error| format!("{error:?}")))
         }
         _ => None,
@@ -32,11 +33,24 @@ fn ident(line: &[u8]) -> Result<IdentRef<'_>, String> {
     IdentRef::from_bytes(line).ok_or("NoIdentity".to_string())
 }
 
-/// Name and mail, with this text after the name and `>` after the mail, and a part of the date.
+/// Name and email, with this text after the name and `>` after the email, and a part of the date.
 fn parts<'a>(line: &'a [u8], opening: &[u8], part: impl Fn(DateRef<'a>) -> &'a [u8]) -> Answer {
-    let IdentRef { name, mail, date } = ident(line)?;
+    let IdentRef {
+        name, email, date, ..
+    } = ident(line)?;
     let last = date.map_or(&b""[..], part);
-    Ok(readable([name, opening, mail, b">", last].concat()))
+    Ok(readable([name, opening, email, b">", last].concat()))
+}
+
+/// The line that is written of what Git shows of it, if the same comes back.
+fn again(line: &[u8]) -> Answer {
+    let ident = ident(line)?;
+    match ident.date {
+        Some(date) if ident.comes_back => write_ident_as_is(ident.name, ident.email, date.shown)
+            .map(readable)
+            .map_err(|error| format!("{error:?}")),
+        _ => Err("NotBack".to_string()),
+    }
 }
 
 fn date(line: &[u8]) -> Result<DateRef<'_>, String> {

@@ -6,7 +6,7 @@ use Rattle.std.specs.Prelude.{◌==◌, ◌||◌, codes, option_map}
 use Rattle.std.proofs.lemmas.Bool.Decides.{nat_tests}
 use Rattle.gix_date.specs.Text.Characters.{plus, minus, colon}
 use Rattle.gix_date.specs.Text.Front.{◌>>=◌}
-use Rattle.gix_date.specs.Text.LongNames.{month_told}
+use Rattle.gix_date.specs.Text.LongNames.{month_of_word}
 use Rattle.gix_date.specs.Text.Names.{is_name}
 use Rattle.git_date.specs.Rules.Dates.{exact_seconds, month_start, seconds_after}
 use Rattle.git_date.specs.Rules.Digits.{Stepped, digits_rule}
@@ -104,7 +104,7 @@ module _ (K : Option ℕ → Option ℕ → Type 0) (D : Token → Type 0)
   word-quiet : (f : Fields) (word : List ℕ) → K f.year f.minute → Keeps K (with_word f word)
   unfolding with_word
   word-quiet f word e =
-      month-quiet f (month_told word) _ e (either (Keeps K) (is_weekday word) _ _ e (zone-quiet f word (zone_named word) e))
+      month-quiet f (month_of_word word) _ e (either (Keeps K) (is_weekday word) _ _ e (zone-quiet f word (zone_named word) e))
 
   letters-quiet : (f : Fields) (run : List ℕ) (more : List Token) → K f.year f.minute → Keeps K (letters_rule f run more)
   unfolding letters_rule

@@ -24,7 +24,7 @@ use Rattle.git_date.specs.Tokens.Strings.{nul}
 use Rattle.git_date.specs.Tokens.Tokens.{Token, Letters, Digits, Mark, letter_before, digit_before, tokens, bytes_left, is_end, walked}
 use Rattle.git_date.specs.Tokens.Numbers.{number, narrow}
 use Rattle.git_date.specs.Tokens.Names.{is_weekday}
-use Rattle.gix_date.specs.Text.LongNames.{month_told, weekday_told}
+use Rattle.gix_date.specs.Text.LongNames.{month_of_word, weekday_of_word}
 use Rattle.git_date.specs.Exact.Fast.{is_date_mark, marked_date}
 use Rattle.git_date.specs.Rules.Fields.{unknown, with_clock, with_date, knows_date}
 use Rattle.git_date.specs.Rules.Words.{with_word, letters_rule, without_ending}
@@ -270,12 +270,12 @@ month-before n rest byte more l h = name-first (month_name n) rest byte more (mo
 
 -- what names say
 day-said : (f : Fields) (n : ℕ) → n < 7 → with_word f (day_name n) ≡ Some f
-unfolding with_word month_told is_weekday weekday_told
+unfolding with_word month_of_word is_weekday weekday_of_word
 day-said f (suc (suc (suc (suc (suc (suc (suc n))))))) h = absurd (omega arith)
 day-said f n h = refl
 
 month-said : (f : Fields) (n : ℕ) → 1 ≤ n → n ≤ 12 → with_word f (month_name n) ≡ Some (record f { month = Some n })
-unfolding with_word month_told
+unfolding with_word month_of_word
 month-said f zero l h = absurd (omega arith)
 month-said f (suc (suc (suc (suc (suc (suc (suc (suc (suc (suc (suc (suc (suc n))))))))))))) l h = absurd (omega arith)
 month-said f n l h = refl

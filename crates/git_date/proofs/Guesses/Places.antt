@@ -21,7 +21,7 @@ use Rattle.git_date.specs.declared.approximate.Today.{Today}
 use Rattle.git_date.specs.declared.approximate.drafts.Draft.{Draft}
 use Rattle.git_date.specs.declared.approximate.expiry.Expiry.{Expiry}
 use Rattle.git_date.specs.declared.approximate.zone.ZoneClock.{ZoneClock}
-use Rattle.git_date.specs.declared.reader.ReadDate.{ReadDate}
+use Rattle.git_date.specs.declared.reader.ExactDate.{ExactDate}
 use Rattle.git_date.specs.declared.fields.dates.Now.{Now}
 use Rattle.git_date.specs.declared.error.DateError.{DateError}
 use Rattle.git_date.specs.declared.error.Fault.{Fault}
@@ -79,7 +79,7 @@ guess-in : (zone : States) (now : Now) (text : List ℕ) → HasApproximatePlace
 unfolding guess
 guess-in zone now text = answer-up-to-in text (string_guess zone now (before_nul text)) (string-guess-in zone now (before_nul text))
 
-exact-or-in : (text : List ℕ) (exact : Result ReadDate DateError) (guessed : Result Approximate DateError) → HasPlacesIn text exact
+exact-or-in : (text : List ℕ) (exact : Result ExactDate DateError) (guessed : Result Approximate DateError) → HasPlacesIn text exact
     → HasApproximatePlacesIn text guessed → HasApproximatePlacesIn text (exact_or_guess exact guessed)
 exact-or-in text (Ok date) guessed h g = h
 exact-or-in text (Err e) guessed h g = either (HasApproximatePlacesIn text) (is_unreadable e) guessed (Err e) g h
@@ -118,5 +118,6 @@ pub guessed_places : (moment : Zoned) (text : List ℕ) (e : DateError) (found :
     → HasApproximatePlacesIn text found
 guessed_places moment text e found is exact =
     let whole : found ≡ approximate moment text =
-    is ∙ ap (λ (exact : Result ReadDate DateError). exact_or_guess exact (guess (states_of (zone_of moment)) (now_of moment) text)) exact in
+    is ∙ ap (λ (exact : Result ExactDate DateError). exact_or_guess exact (guess (states_of (zone_of moment)) (now_of moment) text))
+    exact in
     subst (HasApproximatePlacesIn text) (sym whole) (approximate-places moment text)

@@ -1,8 +1,6 @@
--- How long an offset is as it is written, and what a time has that is made of a line's.
-use Rattle.std.proofs.Common.{refl, ◌≡◌, ◌≢◌, ◌+◌, ◌≤◌, ◌<◌, ◌++◌, ◌^◌, ℕ, ℤ, pos, Bool, true, false, List, length, length-append, arith}
-use Rattle.std.proofs.Common.{cond, ap, ◌∙◌, decimal, append_assoc, [], ◌∷◌, unsigned_abs, nat_lt, if◌then◌else◌, Result, Ok, Err}
-use Rattle.std.proofs.lemmas.Fmt.{length-decimal-le}
-use Rattle.gix_date.specs.Text.Numbers.{two_digits}
+-- What a time has that is made of a line's, and the pieces of a mail's date.
+use Rattle.std.proofs.Common.{refl, ◌≡◌, ◌≢◌, ◌≤◌, ◌<◌, ◌++◌, ℕ, ℤ, pos, Bool, true, false, List, arith}
+use Rattle.std.proofs.Common.{cond, ap, ◌∙◌, decimal, append_assoc, [], ◌∷◌, unsigned_abs, nat_lt, Result, Ok, Err}
 use Rattle.gix_date.specs.declared.time.Time.{Time}
 use Rattle.std.specs.Int.Signed.{lt_z}
 use Rattle.gix_signature.specs.Ident.Times.{time_of_git, minutes_told, widest_minutes}
@@ -13,33 +11,10 @@ use Rattle.gix_date.specs.Fields.Layout.{LocalTime, print_pieces}
 use Rattle.gix_date.specs.Text.Characters.{comma, space}
 use Rattle.gix_date.specs.Text.Names.{day_name, month_name}
 use Rattle.git_date.specs.Show.Clocks.{Moment}
-use Rattle.git_date.specs.Show.OwnDates.{digits_from_two, short_decimals, written_offset_text, hours_written, minutes_written}
-use Rattle.git_date.specs.Show.OwnDates.{is_without_offset, own_clock_shown, own_date_shown_by, rfc2822_front, before_day, then_month}
+use Rattle.git_date.specs.Show.OwnDates.{short_decimals, is_without_offset, own_clock_shown, own_date_shown_by, rfc2822_front}
+use Rattle.git_date.specs.Show.OwnDates.{before_day, then_month}
 use Rattle.git_date.specs.declared.mode.DateKind.{DateKind}
 use Rattle.git_date.specs.declared.mode.DateKind.TheVariants.{Relative, Human, Raw, Unix}
-
-chosen : (b : Bool) (n k : ℕ) → 2 ≤ k → length (decimal n) ≤ k → length (if b then two_digits n else decimal n) ≤ k
-chosen true n k h d = h
-chosen false n k h d = d
-
-digits_short : (n k : ℕ) → 2 ≤ k → n < 10 ^ k → n < 2 ^ 64 → length (digits_from_two n) ≤ k
-digits_short n k h small fits = chosen (nat_lt n 100) n k h (length-decimal-le k n (omega (arith, h)) small fits)
-
-whole : (mark : List ℕ) (o : ℤ) (k : ℕ) → length (digits_from_two (hours_written o)) ≤ k
-    → length (written_offset_text mark o) ≤ k + length mark + 3
-whole mark o k h =
-    omega (
-      arith,
-      h,
-      length-append (digits_from_two (hours_written o) ++ mark) (two_digits (minutes_written o)),
-      length-append (digits_from_two (hours_written o)) mark,
-    )
-
-pub short_offset : (mark : List ℕ) (o : ℤ) → unsigned_abs o < short_decimals → length (written_offset_text mark o) ≤ 9 + length mark
-short_offset mark o h = omega (arith, whole mark o 6 (digits_short (hours_written o) 6 (omega arith) (omega (arith, h)) (omega (arith, h))))
-
-pub any_offset : (mark : List ℕ) (o : ℤ) → unsigned_abs o < 2 ^ 32 → length (written_offset_text mark o) ≤ 11 + length mark
-any_offset mark o h = omega (arith, whole mark o 8 (digits_short (hours_written o) 8 (omega arith) (omega (arith, h)) (omega (arith, h))))
 
 -- a time that is made of a line's has its seconds, and its offset is short
 of-choice : (b : Bool) (n : ℕ) (fault : IdentFault) (u t : Time) → (nat_lt 35_791_394 n ≡ b)

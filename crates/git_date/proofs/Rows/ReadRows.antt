@@ -7,13 +7,13 @@ use Rattle.git_date.specs.Exact.Computing.{computing}
 use Rattle.git_date.specs.Exact.Outcome.{date_at, date_in}
 use Rattle.git_date.specs.Exact.Reading.{said_by}
 use Rattle.git_date.specs.Tokens.Strings.{nul}
-use Rattle.git_date.specs.declared.reader.ReadDate.{ReadDate}
+use Rattle.git_date.specs.declared.reader.ExactDate.{ExactDate}
 use Rattle.git_date.proofs.Rows.RowMoment.{row_now}
 use Rattle.git_date.specs.declared.error.DateError.{DateError}
 use Rattle.git_date.specs.declared.error.DateError.TheVariants.{Unreadable, NumberTooLarge, YearRefused, Range}
 use Rattle.git_date.specs.declared.reader.Said.{Said}
 
-abbrev time_read : Result ReadDate DateError → Result Time DateError
+abbrev time_read : Result ExactDate DateError → Result Time DateError
 time_read (Ok date) = Ok date.time
 time_read (Err e) = Err e
 

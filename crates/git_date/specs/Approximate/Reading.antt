@@ -21,7 +21,7 @@ use Rattle.git_date.specs.declared.approximate.Approximate.{Approximate}
 use Rattle.git_date.specs.declared.approximate.Today.{Today}
 use Rattle.git_date.specs.declared.approximate.drafts.Draft.{Draft}
 use Rattle.git_date.specs.declared.approximate.zone.ZoneClock.{ZoneClock}
-use Rattle.git_date.specs.declared.reader.ReadDate.{ReadDate}
+use Rattle.git_date.specs.declared.reader.ExactDate.{ExactDate}
 use Rattle.git_date.specs.declared.fields.dates.Now.{Now}
 use Rattle.git_date.specs.declared.error.DateError.{DateError}
 use Rattle.git_date.specs.declared.error.DateError.TheVariants.{Unreadable, Range}
@@ -83,7 +83,7 @@ is_unreadable Unreadable = true
 is_unreadable _ = false
 
 -- the answer of the exact reader, where it reads or refuses the text by another name
-abbrev pub exact_or_guess : Result ReadDate DateError → Result Approximate DateError → Result Approximate DateError
+abbrev pub exact_or_guess : Result ExactDate DateError → Result Approximate DateError → Result Approximate DateError
 exact_or_guess (Ok date) guessed = Ok (record { time = date.time; understood = true; ignored = date.ignored })
 exact_or_guess (Err e) guessed = if is_unreadable e then guessed else Err e
 

@@ -4,7 +4,7 @@ use Rattle.std.specs.List.{position, find}
 use Rattle.std.specs.Option.{option_or}
 use Rattle.gix_date.specs.Fields.ClockNumbers.{seconds_per_minute, seconds_per_hour, seconds_per_day}
 use Rattle.gix_date.specs.Text.Names.{is_name, named_in, number_names}
-use Rattle.gix_date.specs.Text.LongNames.{begins, month_told, weekday_told}
+use Rattle.gix_date.specs.Text.LongNames.{begins, month_of_word, weekday_of_word}
 use Rattle.git_date.specs.declared.approximate.meanings.Meaning.{Meaning}
 use Rattle.git_date.specs.declared.approximate.meanings.Meaning.TheVariants.{Month, Back, Never, Hour, Morning, Afternoon, Count}
 use Rattle.git_date.specs.declared.approximate.meanings.Meaning.TheVariants as meaning
@@ -42,6 +42,6 @@ unit_named word = option_map (λ row. row.1) (find (λ row. is_unit word row.0) 
 unfoldable pub meaning_of : List ℕ → Option Meaning
 meaning_of word =
     let weekday_or_unit =
-    option_or (option_map (λ day. meaning.Unit (Weekday day)) (weekday_told word)) (option_map meaning.Unit (unit_named word)) in
+    option_or (option_map (λ day. meaning.Unit (Weekday day)) (weekday_of_word word)) (option_map meaning.Unit (unit_named word)) in
     let counted = option_or (option_map Count (count_named word)) weekday_or_unit in
-    option_or (option_map Month (month_told word)) (option_or (moment_named word) counted)
+    option_or (option_map Month (month_of_word word)) (option_or (moment_named word) counted)

@@ -9,9 +9,9 @@ abbrev pub with_sign : ℤ → ℕ → ℤ
 with_sign n size = if int_lt n (pos 0) then neg_ℤ (pos size) else pos size
 
 -- the seconds of a number of Git's, or the most of its sign
-unfoldable pub offset_of_decimal : ℤ → ℤ
-offset_of_decimal decimal = with_sign decimal (min (distance (unsigned_abs decimal / 100) (unsigned_abs decimal % 100)) WIDEST)
+unfoldable pub offset_from_decimal : ℤ → ℤ
+offset_from_decimal decimal = with_sign decimal (min (distance (unsigned_abs decimal / 100) (unsigned_abs decimal % 100)) WIDEST)
 
 -- the number of Git's for an offset, without the seconds of a minute
-unfoldable pub decimal_of_offset : ℤ → ℤ
-decimal_of_offset offset = with_sign offset (100 * hours_in (unsigned_abs offset) + minutes_in (unsigned_abs offset))
+unfoldable pub offset_to_decimal : ℤ → ℤ
+offset_to_decimal offset = with_sign offset (100 * hours_in (unsigned_abs offset) + minutes_in (unsigned_abs offset))

@@ -13,7 +13,7 @@ use Rattle.git_date.specs.Rules.Dates.{now_at}
 use Rattle.git_date.specs.Exact.Reading.{said_by}
 use Rattle.git_date.specs.Exact.Zones.{States, states_of, before_leap, found_offset}
 use Rattle.git_date.specs.declared.reader.Said.{Said}
-use Rattle.git_date.specs.declared.reader.ReadDate.{ReadDate}
+use Rattle.git_date.specs.declared.reader.ExactDate.{ExactDate}
 use Rattle.git_date.specs.declared.error.DateError.{DateError}
 use Rattle.git_date.specs.declared.error.DateError.TheVariants.{Unreadable, NumberTooLarge, BackTooFar, YearRefused, Range}
 
@@ -30,7 +30,7 @@ abbrev pub instant_seconds : Said → ℤ → ℤ
 instant_seconds said minutes = if said.epoch then said.seconds else said.seconds -ℤ pos 60 *ℤ minutes
 
 -- the date at an offset in minutes; Git has none before 1970
-unfoldable pub date_at : Said → ℤ → Result ReadDate DateError
+unfoldable pub date_at : Said → ℤ → Result ExactDate DateError
 date_at said minutes =
     if le_z (pos 0) (instant_seconds said minutes)
     then Ok (record {
@@ -41,7 +41,7 @@ date_at said minutes =
     else Err Range
 
 -- the date where the zone's clock shows it, if the zone has an offset there: in whole minutes, toward zero
-abbrev pub date_in : Said → Option ℤ → Result ReadDate DateError
+abbrev pub date_in : Said → Option ℤ → Result ExactDate DateError
 date_in said (Some offset) = date_at said (int_div offset (pos 60))
 date_in said None = Err Range
 
@@ -50,25 +50,25 @@ abbrev pub said_in : States → Said → Option ℤ
 said_in zone said = found_offset zone (record { clock = before_leap said.leap said.seconds; daylight = None }) (pos 0)
 
 -- the date at the offset that the text says, or at that of the zone where its clock shows these seconds
-abbrev pub at_offset : TimeZone → Said → Option ℤ → Result ReadDate DateError
+abbrev pub at_offset : TimeZone → Said → Option ℤ → Result ExactDate DateError
 at_offset tz said (Some minutes) = date_at said minutes
 at_offset tz said None = date_in said (said_in (states_of tz) said)
 
 -- the date that what a text says comes to in a zone
-abbrev pub date_of : TimeZone → Result Said DateError → Result ReadDate DateError
+abbrev pub date_of : TimeZone → Result Said DateError → Result ExactDate DateError
 date_of tz (Ok said) = at_offset tz said said.offset
 date_of tz (Err e) = Err e
 
 -- what the exact reader makes of a text, at an instant in a zone
-abbrev pub read_at : ℤ → TimeZone → List ℕ → Result ReadDate DateError
+abbrev pub read_at : ℤ → TimeZone → List ℕ → Result ExactDate DateError
 read_at nanos tz text = date_of tz (said_by (now_at nanos) text)
 
 -- the result of `parse_date_at`
-abbrev pub DateOutcomeAt : ℤ → TimeZone → List ℕ → Result ReadDate DateError → Type 0
+abbrev pub DateOutcomeAt : ℤ → TimeZone → List ℕ → Result ExactDate DateError → Type 0
 DateOutcomeAt nanos tz text result = result ≡ read_at nanos tz text
 
 -- the result of `parse_date`
-abbrev pub DateOutcome : Zoned → List ℕ → Result ReadDate DateError → Type 0
+abbrev pub DateOutcome : Zoned → List ℕ → Result ExactDate DateError → Type 0
 DateOutcome moment text result = DateOutcomeAt (zoned_nanos moment) (zone_of moment) text result
 
 -- the minutes of the offset that a text says, if it says one
@@ -89,6 +89,6 @@ IsErrorIn text Unreadable = Unit {0}
 IsErrorIn text Range = Unit {0}
 
 -- places are in the text: that of what was ignored, or that of a refusal
-abbrev pub HasPlacesIn : List ℕ → Result ReadDate DateError → Type 0
+abbrev pub HasPlacesIn : List ℕ → Result ExactDate DateError → Type 0
 HasPlacesIn text (Ok date) = IfSome date.ignored (IsPlaceIn text)
 HasPlacesIn text (Err e) = IsErrorIn text e

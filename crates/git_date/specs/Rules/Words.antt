@@ -4,7 +4,7 @@ use Rattle.std.specs.List.{list_any}
 use Rattle.std.specs.Option.{option_or}
 use Rattle.gix_date.specs.Text.Names.{is_name}
 use Rattle.git_date.specs.Tokens.Names.{is_weekday, zone_named}
-use Rattle.gix_date.specs.Text.LongNames.{month_told}
+use Rattle.gix_date.specs.Text.LongNames.{month_of_word}
 use Rattle.git_date.specs.Tokens.Tokens.{Token, Letters, Digits}
 use Rattle.git_date.specs.declared.fields.Fields.{Fields}
 
@@ -41,7 +41,7 @@ half_or_filler f word =
 unfoldable pub with_word : Fields → List ℕ → Option Fields
 with_word f word =
     let zone_or_half = option_or (option_map (with_zone f) (zone_named word)) (half_or_filler f word) in
-    option_or (option_map (λ month. record f { month = Some month }) (month_told word))
+    option_or (option_map (λ month. record f { month = Some month }) (month_of_word word))
     (if is_weekday word then Some f else zone_or_half)
 
 -- letters: no word that has a digit is known

@@ -15,10 +15,10 @@ use Rattle.gix_date.specs.Fields.Offsets.{offset_sign}
 use Rattle.gix_date.specs.Printing.LocalClocks.{clock_of, local_seconds, last_of_year_9999}
 use Rattle.gix_date.specs.Printing.NamedTexts.{short_text, bare_default_text}
 use Rattle.gix_date.specs.declared.time.Time.{Time}
-use Rattle.gix_signature.specs.Ident.Times.{time_of_git}
+use Rattle.gix_signature.specs.Ident.Times.{time_of_git, offset_digits}
 use Rattle.gix_signature.specs.declared.error.IdentFault.{IdentFault}
 use Rattle.gix_signature.specs.declared.ident.GitTime.{GitTime}
-use Rattle.git_date.specs.Exact.Decimals.{decimal_of_offset}
+use Rattle.git_date.specs.Exact.Decimals.{offset_to_decimal}
 use Rattle.git_date.specs.Show.Ages.{relative_text}
 use Rattle.git_date.specs.Show.Clocks.{Moment, zone_clock}
 use Rattle.git_date.specs.Show.Dates.{shown_by}
@@ -31,26 +31,19 @@ use Rattle.git_date.specs.declared.show.human.Distance.TheVariants.{FewDays}
 use Rattle.git_date.specs.declared.show.own.OwnDateError.{OwnDateError}
 use Rattle.git_date.specs.declared.show.own.OwnDateError.TheVariants.{Range, BeforeEpoch, OffsetTooWide}
 
--- the hours and the minutes of an offset's decimal number; minutes may be 60 and more
-abbrev pub hours_written : ℤ → ℕ
-hours_written offset = unsigned_abs offset / 100
-
-abbrev pub minutes_written : ℤ → ℕ
-minutes_written offset = unsigned_abs offset % 100
-
 -- the numbers of offsets of at most eight digits, as all are that a clock has
 abbrev pub short_decimals : ℕ
 short_decimals = 100_000_000
 
--- a number in two digits or more
-abbrev pub digits_from_two : ℕ → List ℕ
-digits_from_two n = if nat_lt n 100 then two_digits n else decimal n
-
 -- an offset by its decimal number, with nothing or a colon before the minutes: `+0060`, `+51800`, `+518:00`
 abbrev pub written_offset_text : List ℕ → ℤ → List ℕ
-written_offset_text mark offset =
-    offset_sign offset ∷ digits_from_two (hours_written offset) ++ mark ++ two_digits (minutes_written offset)
+written_offset_text mark offset = offset_sign offset ∷ offset_digits mark offset
 
+-- an offset in seconds, as Git writes it
+unfoldable pub offset_text : ℤ → List ℕ
+offset_text offset = written_offset_text [] (offset_to_decimal offset)
+
+-- a space and a written offset
 abbrev pub spaced_offset_text : ℤ → List ℕ
 spaced_offset_text offset = space ∷ written_offset_text [] offset
 
@@ -112,7 +105,7 @@ few_days_offset _ offset today = []
 -- a human date: what it shows of a local clock, and the offset
 abbrev pub own_human_text : ℤ → LocalTime → LocalTime → List ℕ → List ℕ
 own_human_text offset t today age =
-    human_text true t today age ++ few_days_offset (distance_of t.date today.date) offset (decimal_of_offset today.offset)
+    human_text true t today age ++ few_days_offset (distance_of t.date today.date) offset (offset_to_decimal today.offset)
 
 -- what is shown of a clock, if there is one
 abbrev pub shown_of_clock : (LocalTime → Result (List ℕ) OwnDateError) → Result LocalTime OwnDateError → Result (List ℕ) OwnDateError

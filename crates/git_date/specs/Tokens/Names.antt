@@ -5,11 +5,11 @@ use Rattle.std.specs.Borrow.{Bor}
 use Rattle.std.specs.List.{find, list_all}
 use Rattle.std.specs.Char.{to_ascii_lowercase}
 use Rattle.gix_date.specs.Text.Names.{is_name}
-use Rattle.gix_date.specs.Text.LongNames.{is_short, weekday_told}
+use Rattle.gix_date.specs.Text.LongNames.{is_short, weekday_of_word}
 
 -- a word names a day of the week
 unfoldable pub is_weekday : List ℕ → Bool
-is_weekday word = is_some (weekday_told word)
+is_weekday word = is_some (weekday_of_word word)
 
 -- a zone's name: the whole, or at least three letters of it
 abbrev pub is_zone_name : List ℕ → List ℕ → Bool

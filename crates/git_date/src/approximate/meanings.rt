@@ -4,7 +4,7 @@ ghost use Rattle.std.specs.List.{position};
 ghost use Rattle.git_date.specs as Spec;
 ghost use Rattle.gix_date.specs as GixDate;
 
-use gix_date::names::{begins, is_name, month_told, weekday_told};
+use gix_date::names::{begins, is_name, month_of_word, weekday_of_word};
 use gix_date::time::SECONDS_PER_DAY;
 
 /// What a word says.
@@ -124,7 +124,7 @@ fn unit_named(word: &[u8]) -> Option<Unit>
 pub(crate) fn meaning_of(word: &[u8]) -> Option<Meaning>
     ensures { result ≡ Spec.meaning_of word.now }
 {
-    if let Some(month) = month_told(word) {
+    if let Some(month) = month_of_word(word) {
         return Some(Meaning::Month(month));
     }
     if let Some(meaning) = moment_named(word) {
@@ -133,7 +133,7 @@ pub(crate) fn meaning_of(word: &[u8]) -> Option<Meaning>
     if let Some(n) = count_named(word) {
         return Some(Meaning::Count(n));
     }
-    if let Some(day) = weekday_told(word) {
+    if let Some(day) = weekday_of_word(word) {
         return Some(Meaning::Unit(Unit::Weekday(day)));
     }
     Some(Meaning::Unit(unit_named(word)?))

@@ -11,16 +11,15 @@ use crate::mode::{DateKind, DateMode};
 use crate::show::ages::relative_text;
 use crate::show::human::{Distance, distance_of, few_days_text, human_text};
 use crate::show::{DateText, show_date_at};
-use crate::zone_texts::decimal_of_offset;
+use crate::zone_texts::offset_to_decimal;
 use arrayvec::ArrayString;
 use gix_date::Time;
 use gix_date::clock::{
-    Clock, local_seconds, push_bare_default, push_clock, push_date, push_day, push_month,
-    push_two_digits, push_year,
+    Clock, local_seconds, push_bare_default, push_clock, push_date, push_day, push_month, push_year,
 };
 use gix_date::names::day_name;
 use gix_date::time::LAST_OF_YEAR_9999;
-use gix_signature::GitTime;
+use gix_signature::{GitTime, push_offset_digits};
 use jiff::Timestamp;
 use jiff::tz::TimeZone;
 use thiserror::Error;
@@ -151,7 +150,7 @@ fn human_shown(
 }
 
 /// The seconds in decimal, and the offset as the line writes it.
-#[tactic(auto, using(crate::proofs::Printing::WrittenOffsets::any_offset))]
+#[tactic(auto, using(gix_signature::proofs::TimeTexts::any_offset))]
 fn own_raw_text(time: GitTime) -> OwnDateText
     ensures { result.bytes ≡ GixDate.decimal_text time.seconds ++ Spec.spaced_offset_text time.offset }
 {
@@ -190,33 +189,34 @@ fn dated_clock(time: Time) -> Result<Clock, OwnDateError>
     }
 }
 
-/// Appends the hours of an offset, in two digits or more.
-fn push_written_hours(text: &mut OwnDateText, hours: u32)
-    requires { array_string_len text.old + length (Spec.digits_from_two hours) ≤ MAX_OWN_LEN }
-    ensures bytes { text.new.bytes ≡ text.old.bytes ++ Spec.digits_from_two hours }
-    ensures len { array_string_len text.new ≡ array_string_len text.old + length (Spec.digits_from_two hours) }
+/// The most bytes of an offset's text: a sign, eight digits of hours and two of minutes.
+const MAX_OFFSET_LEN: usize = 11;
+
+/// The text of an offset, in a buffer of its own. It is ASCII.
+pub type OffsetText = ArrayString<MAX_OFFSET_LEN>;
+
+/// The text of an offset in seconds east of UTC, as Git writes it: a sign, hours in two digits or more, and two digits of minutes:
+/// `+0530`, `-0130`, `+51800`. Seconds beyond whole minutes are dropped. [`crate::parse_offset`] reads it up to 25 hours. Takes no memory.
+#[tactic(auto, using(gix_signature::proofs::TimeTexts::any_offset), unfolding(crate::specs::offset_text))]
+pub fn offset_text(offset: i32) -> OffsetText
+    ensures { result.bytes ≡ Spec.offset_text offset }
 {
-    if hours < 100 {
-        push_two_digits(text, hours as u8);
-    } else {
-        text.push_str(itoa::Buffer::new().format(hours));
-    }
+    let mut text = ArrayString::new();
+    push_written_offset(&mut text, "", offset_to_decimal(offset));
+    text
 }
 
 /// Appends an offset as it is written, with a mark before its minutes.
-fn push_written_offset(text: &mut OwnDateText, mark: &str, offset: i32)
-    requires { array_string_len text.old + length (Spec.written_offset_text mark.now offset) ≤ MAX_OWN_LEN }
+fn push_written_offset<const CAP: usize>(text: &mut ArrayString<CAP>, mark: &str, offset: i32)
+    requires { array_string_len text.old + length (Spec.written_offset_text mark.now offset) ≤ CAP }
     ensures { text.new.bytes ≡ text.old.bytes ++ Spec.written_offset_text mark.now offset }
 {
-    let size = offset.unsigned_abs();
     text.push(if offset < 0 { '-' } else { '+' });
-    push_written_hours(text, size / 100);
-    text.push_str(mark);
-    push_two_digits(text, (size % 100) as u8);
+    push_offset_digits(text, mark, offset);
 }
 
 /// Appends a space and an offset as it is written.
-#[tactic(auto, using(gix_date::proofs::Text::Ints::held, crate::proofs::Printing::WrittenOffsets::short_offset))]
+#[tactic(auto, using(gix_date::proofs::Text::Ints::held, gix_signature::proofs::TimeTexts::short_offset))]
 fn push_spaced_offset(text: &mut OwnDateText, offset: i32)
     requires short { unsigned_abs offset < Spec.short_decimals }
     requires room { array_string_len text.old + 10 ≤ MAX_OWN_LEN }
@@ -264,7 +264,7 @@ fn push_rfc2822_front(text: &mut OwnDateText, t: Clock)
 }
 
 /// What a kind with a clock and nothing else shows of an offset and a clock.
-#[tactic(auto, using(crate::proofs::Printing::WrittenOffsets::short_offset))]
+#[tactic(auto, using(gix_signature::proofs::TimeTexts::short_offset))]
 fn own_clock_text(kind: DateKind, offset: i32, t: Clock) -> OwnDateText
     requires kind { Spec.is_clock_kind kind ≡ true }
     requires short { unsigned_abs offset < Spec.short_decimals }
@@ -308,7 +308,7 @@ fn own_human_text(offset: i32, t: Clock, today: Clock, age: DateText) -> OwnDate
     match distance_of(t, today) {
         Distance::FewDays => {
             let mut text = widened(few_days_text(true, t, today));
-            if offset != decimal_of_offset(today.offset()) {
+            if offset != offset_to_decimal(today.offset()) {
                 push_spaced_offset(&mut text, offset);
             }
             text

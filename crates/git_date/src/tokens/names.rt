@@ -3,7 +3,7 @@ ghost use Rattle.std.specs.Prelude.{◌≡◌, ◌≤◌, true, length};
 ghost use Rattle.git_date.specs as Spec;
 ghost use Rattle.gix_date.specs as GixDate;
 
-use gix_date::names::{begins, is_name, weekday_told};
+use gix_date::names::{begins, is_name, weekday_of_word};
 
 /// How many letters of a name are enough for Git.
 const LEAST: usize = 3;

@@ -7,7 +7,7 @@ ghost use Rattle.gix_date.specs as GixDate;
 use crate::fields::Fields;
 use crate::tokens::names::zone_named;
 use crate::tokens::{Token, next_token};
-use gix_date::names::{is_name, month_told, weekday_told};
+use gix_date::names::{is_name, month_of_word, weekday_of_word};
 
 impl Fields {
     /// With the offset of a zone's name. As in Git the first name counts, and a sign overrules it.
@@ -25,13 +25,13 @@ impl Fields {
     fn with_word(self, word: &[u8]) -> Option<Fields>
         ensures { result ≡ Spec.with_word self word.now }
     {
-        if let Some(month) = month_told(word) {
+        if let Some(month) = month_of_word(word) {
             return Some(Fields {
                 month: Some(month),
                 ..self
             });
         }
-        if weekday_told(word).is_some() {
+        if weekday_of_word(word).is_some() {
             return Some(self);
         }
         if let Some(minutes) = zone_named(word) {

@@ -16,7 +16,7 @@ use Rattle.git_date.specs.Exact.Reading.{said_by}
 use Rattle.git_date.specs.Tokens.Strings.{nul_place}
 use Rattle.git_date.specs.Tokens.Tokens.{tokens}
 use Rattle.git_date.specs.Types.Names.{Fault, Now, Reading, Said}
-use Rattle.git_date.specs.declared.reader.ReadDate.{ReadDate}
+use Rattle.git_date.specs.declared.reader.ExactDate.{ExactDate}
 use Rattle.git_date.specs.declared.error.DateError.{DateError}
 use Rattle.git_date.specs.declared.error.DateError.TheVariants.{Range}
 use Rattle.git_date.proofs.Rules.EnoughSteps.{fewer}
@@ -29,7 +29,7 @@ abbrev time_said : Said → ℤ → Time
 time_said said minutes = record { seconds = instant_seconds said minutes; offset = pos 60 *ℤ minutes }
 
 -- what such a date was said by
-record IsSaid (date : ReadDate) (read : Result Said DateError) : Type 0 where
+record IsSaid (date : ExactDate) (read : Result Said DateError) : Type 0 where
   said : Said
   minutes : ℤ
   is : read ≡ Ok said
@@ -41,12 +41,12 @@ from-ok : {A : Type 0} (b : Bool) (x y : A) → Ok y ≡ cond b (Ok x) (Err Rang
 from-ok true x y e = cc
 from-ok false x y e = absurd cc
 
-date-is : (said : Said) (minutes : ℤ) (date : ReadDate) → Ok date ≡ date_at said minutes
+date-is : (said : Said) (minutes : ℤ) (date : ExactDate) → Ok date ≡ date_at said minutes
     → date ≡ record { time = time_said said minutes; has_offset = is_some said.offset; ignored = said.ignored }
 unfolding date_at
 date-is said minutes date e = from-ok (le_z (pos 0) (instant_seconds said minutes)) _ date e
 
-said-by : (tz : TimeZone) (read : Result Said DateError) (date : ReadDate) → Ok date ≡ date_of tz read → date.has_offset ≡ true
+said-by : (tz : TimeZone) (read : Result Said DateError) (date : ExactDate) → Ok date ≡ date_of tz read → date.has_offset ≡ true
     → date.ignored ≡ None → IsSaid date read
 said-by tz (Err e) date h has none = absurd cc
 said-by tz (Ok said) date h has none = by said.offset refl h (sym (told tz (Ok said) date h) ∙ has)
@@ -60,9 +60,9 @@ said-by tz (Ok said) date h has none = by said.offset refl h (sym (told tz (Ok s
           minutes = minutes;
           is = refl;
           offset = e;
-          time = ap (λ (d : ReadDate). d.time) same;
+          time = ap (λ (d : ExactDate). d.time) same;
           ignored =
-              sym (ap (λ (d : ReadDate). d.ignored) same) ∙ none;
+              sym (ap (λ (d : ExactDate). d.ignored) same) ∙ none;
         }
     by None e h some = absurd (let clash = sym some ∙ ap is_some e in cc)
 
@@ -122,7 +122,7 @@ module _ (now : Now) (t : Time) (text : List ℕ) (said : Said) (minutes : ℤ) 
       ap (λ (x : Said). time_said x minutes) same ∙ ap (λ (m : ℤ). record { seconds = pos found.0; offset = pos 60 *ℤ m }) (sym equal)
       ∙ sym fits
 
-pub time-is : (now : Now) (tz : TimeZone) (t : Time) (text : List ℕ) (date : ReadDate) → Goes now t unknown (tokens text)
+pub time-is : (now : Now) (tz : TimeZone) (t : Time) (text : List ℕ) (date : ExactDate) → Goes now t unknown (tokens text)
     → FitsAt t (at_text (tokens text))
     → Ok date ≡ date_of tz (said_by now text) → date.has_offset ≡ true → date.ignored ≡ None → date.time ≡ t
 unfolding said_by string_said

@@ -14,7 +14,7 @@ use Rattle.gix_date.specs.Fields.FieldTexts.{AreMinutes}
 use Rattle.gix_date.specs.Fields.Layout.{LocalTime, BeginsWith, DayName, Rfc2822DayName, Rfc2822Clock, Rfc2822Offset}
 use Rattle.gix_date.specs.Fields.Offsets.{offset_fields, offset_of}
 use Rattle.gix_date.specs.Text.Characters.{colon, comma, space}
-use Rattle.gix_date.specs.Text.LongNames.{month_told, weekday_told}
+use Rattle.gix_date.specs.Text.LongNames.{month_of_word, weekday_of_word}
 use Rattle.gix_date.specs.Text.Names.{is_name}
 use Rattle.gix_date.specs.declared.time.Time.{Time}
 use Rattle.git_date.proofs.Exact.PrintedClocks.{at, small-rule, taken-rule, after-clock, clock-taken, numbered, two-numbers, or_bare}
@@ -112,7 +112,7 @@ module _ (now : Now) (t : Time) (l : LocalTime) (is : IsOf l t) (f : AreFields l
   gone minutes e = over now t (zoned minutes) (zoned-fits minutes e)
 
   zone-goes : (x : List ℕ) → named_zone x ≡ Some l.offset → Goes now t (all_of l) (tokens x)
-  unfolding named_zone tokens with_word month_told is_weekday weekday_told zone_named
+  unfolding named_zone tokens with_word month_of_word is_weekday weekday_of_word zone_named
   zone-goes x e =
       let G = Goes now t (all_of l) (tokens x) in
       let west : ℕ → ℤ = λ minutes. neg_ℤ (pos minutes) in

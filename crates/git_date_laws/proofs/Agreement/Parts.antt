@@ -20,7 +20,7 @@ use Rattle.gix_date.specs.Fields.Layout.{LocalTime, BeginsWith, DayName, MonthNa
 use Rattle.gix_date.specs.Fields.Layout.{ColonOffset}
 use Rattle.gix_date.specs.Fields.Offsets.{SignedPairs, offset_fields, offset_of}
 use Rattle.gix_date.specs.Text.Characters.{colon, dot, plus, minus, space, letter_t}
-use Rattle.gix_date.specs.Text.LongNames.{month_told}
+use Rattle.gix_date.specs.Text.LongNames.{month_of_word}
 use Rattle.gix_date.specs.declared.time.Time.{Time}
 use Rattle.git_date.proofs.Rules.ClocksBack.{later-day}
 use Rattle.git_date.proofs.Rules.Kept.{either}
@@ -72,7 +72,7 @@ second-is : (text before second after : List ℕ) (n m : ℕ) → HasNoLeapSecon
 second-is text before second after n m free e h is = grind (arith, nat_tests, sixty)
 
 -- three letters tell the month that they name, and the day of the week
-month-told : (x : List ℕ) → AreThreeLetters x → month_told x ≡ month_named x
+month-told : (x : List ℕ) → AreThreeLetters x → month_of_word x ≡ month_named x
 month-told (a ∷ b ∷ c ∷ []) h = month-is a b c
 month-told ts h = absurd h
 
@@ -237,7 +237,7 @@ module _ (now : Now) (t : Time) (l : LocalTime) (is : IsOf l t) (f : AreFields l
     weekday-part p byte more e go =
         subst (λ (x : List ℕ). Goes now t unknown (tokens x)) (sym p.whole)
         (piece unknown p.front p.rest (Letters p.front) (Mark byte ∷ more) (name-first p.front p.rest byte more p.is.0 e) refl
-        (named (month_told p.front)))
+        (named (month_of_word p.front)))
       where
         named : (month : Option ℕ) → After now t (option_or (option_map (λ m. record unknown { month = Some m }) month)
             (cond (is_weekday p.front) (Some unknown)

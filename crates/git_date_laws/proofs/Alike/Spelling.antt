@@ -4,7 +4,7 @@ use Rattle.std.specs.Prelude.{◌==◌, ◌&&◌, ◌||◌, codes, take, nat_le}
 use Rattle.std.specs.List.{position, find, list_any}
 use Rattle.gix_date.specs.Text.Names.{is_name, named_in, number_names, whole_month_names}
 use Rattle.git_date.specs.Tokens.Names.{is_zone_name, zone_rows, is_weekday, zone_named}
-use Rattle.gix_date.specs.Text.LongNames.{is_short, long_day_names, month_told, weekday_told}
+use Rattle.gix_date.specs.Text.LongNames.{is_short, long_day_names, month_of_word, weekday_of_word}
 use Rattle.git_date.specs.Rules.Words.{filler_words, ending_words, is_filler, half_or_filler, with_word, is_ending, with_zone}
 use Rattle.git_date.specs.Types.Names.{Fields}
 use Rattle.git_date.specs.Approximate.Words.{moment_names, moment_named, count_named, is_unit, unit_names, unit_named, meaning_of}
@@ -24,12 +24,12 @@ module _ (spell : List ℕ → List ℕ) (same : IsSpelling spell) where
   zone-agrees : (word name : List ℕ) → is_zone_name (spell word) name ≡ is_zone_name word name
   zone-agrees word name = ap₂ ◌||◌ (same.named word name) (short-agrees word name)
 
-  pub month-agrees : (word : List ℕ) → month_told (spell word) ≡ month_told word
-  unfolding month_told
+  pub month-agrees : (word : List ℕ) → month_of_word (spell word) ≡ month_of_word word
+  unfolding month_of_word
   month-agrees word = λ i. option_map (λ place. place + 1) (position (λ name. short-agrees word name i) whole_month_names)
 
   weekday-agrees : (word : List ℕ) → is_weekday (spell word) ≡ is_weekday word
-  unfolding is_weekday weekday_told
+  unfolding is_weekday weekday_of_word
   weekday-agrees word = λ i. is_some (position (λ name. short-agrees word name i) long_day_names)
 
   zone-named-agrees : (word : List ℕ) → zone_named (spell word) ≡ zone_named word
@@ -80,8 +80,8 @@ module _ (spell : List ℕ → List ℕ) (same : IsSpelling spell) where
   unfolding unit_named
   unit-agrees word = λ i. option_map (λ row. row.1) (find (λ row. is-unit-agrees word row.0 i) unit_names)
 
-  weekday-named-agrees : (word : List ℕ) → weekday_told (spell word) ≡ weekday_told word
-  unfolding weekday_told
+  weekday-named-agrees : (word : List ℕ) → weekday_of_word (spell word) ≡ weekday_of_word word
+  unfolding weekday_of_word
   weekday-named-agrees word = λ i. position (λ name. short-agrees word name i) long_day_names
 
   pub meaning-agrees : (word : List ℕ) → meaning_of (spell word) ≡ meaning_of word

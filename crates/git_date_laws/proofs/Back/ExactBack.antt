@@ -12,7 +12,7 @@ use Rattle.git_date.specs.Approximate.Reading.{string_guess, guess, approximate_
 use Rattle.git_date.specs.Approximate.Drafts.{first_draft, clock_fields, all_fields, with_shown, settle, last_of}
 use Rattle.git_date.specs.Approximate.Rules.{approximate_letters_rule, approximate_digits_rule, meaning_rule, is_padded}
 use Rattle.git_date.specs.Approximate.Words.{moment_named, count_named, unit_named, meaning_of}
-use Rattle.gix_date.specs.Text.LongNames.{weekday_told, month_told}
+use Rattle.gix_date.specs.Text.LongNames.{weekday_of_word, month_of_word}
 use Rattle.git_date.specs.Approximate.Clocks.{filled_seconds}
 use Rattle.git_date.specs.Approximate.Zones.{clock_at, shown_in, filled_instant, filled_time, moved_to, before, fill}
 use Rattle.git_date.specs.Exact.Zones.{States}
@@ -87,7 +87,7 @@ unfolding approximate_letters_rule meaning_rule
 unit-moves zone c guess next unit last n size left means small moves = grind (arith, not-large)
 
 pub ago-nothing : (zone : States) (c : LocalTime) (d : Draft) → approximate_letters_rule zone c d (codes "ago") [] ≡ Ok d
-unfolding approximate_letters_rule meaning_of month_told moment_named count_named weekday_told unit_named
+unfolding approximate_letters_rule meaning_of month_of_word moment_named count_named weekday_of_word unit_named
 ago-nothing zone c d = refl
 
 -- a count that waits, the unit that moves it, and `ago`

@@ -27,7 +27,7 @@ use Rattle.git_date.specs.Tokens.Strings.{before_nul, nul_place}
 use Rattle.git_date.specs.Tokens.Tokens.{Token, Letters, Digits, Mark, tokens, bytes_left, is_end, walked}
 use Rattle.git_date.specs.Types.Names.{Now, Fields, Fault, Group, Reading, Said}
 use Rattle.git_date.specs.Rules.Words.{is_filler, with_word, letters_rule, without_ending, with_zone, half_or_filler}
-use Rattle.git_date.specs.declared.reader.ReadDate.{ReadDate}
+use Rattle.git_date.specs.declared.reader.ExactDate.{ExactDate}
 use Rattle.git_date.specs.declared.error.DateError.{DateError}
 use Rattle.git_date.proofs.Rules.EnoughSteps.{fewer, rule-short}
 use Rattle.git_date.proofs.Rules.Kept.{Leaves}
@@ -263,7 +263,7 @@ module _ (now : Now) where
   text-walk text last e = steps-walk (length text) nothing_read last (tokens text) (fewer text) e
 
 -- the answer
-date-ignored : (tz : TimeZone) (said : Said) (date : ReadDate) → Ok date ≡ date_of tz (Ok said) → date.ignored ≡ said.ignored
+date-ignored : (tz : TimeZone) (said : Said) (date : ExactDate) → Ok date ≡ date_of tz (Ok said) → date.ignored ≡ said.ignored
 unfolding date_at
 date-ignored tz said date e = grind arith
 

@@ -30,7 +30,7 @@ use Rattle.git_date.specs.Exact.Reading.{string_said, said_by, at_or_fields}
 use Rattle.git_date.specs.Show.Dates.{shown, shown_offset}
 use Rattle.git_date.specs.Show.Clocks.{Moment, is_written_offset}
 use Rattle.git_date.specs.Tokens.Tokens.{Token, Digits, Mark, tokens}
-use Rattle.git_date.specs.declared.reader.ReadDate.{ReadDate}
+use Rattle.git_date.specs.declared.reader.ExactDate.{ExactDate}
 use Rattle.git_date.specs.Types.Names.{Now}
 use Rattle.git_date.specs.declared.error.DateError.{DateError}
 use Rattle.git_date.specs.declared.mode.DateKind.TheVariants.{Raw}
@@ -93,7 +93,7 @@ raw-parts : (now : Moment) (t : Time) (text : List ℕ) → shown now (own Raw) 
 unfolding shown shown_offset
 raw-parts now t text e = grind (arith, when-shown, mapped)
 
-by-seconds : (tz : TimeZone) (this : Now) (s o : ℤ) (result : Result ReadDate DateError) → lt_z s (pos 0) ≡ false
+by-seconds : (tz : TimeZone) (this : Now) (s o : ℤ) (result : Result ExactDate DateError) → lt_z s (pos 0) ≡ false
     → is_written_offset o ≡ true → is_instant s ≡ true
     → result ≡ date_of tz (said_by this (at_sign ∷ written_text (record { seconds = s; offset = o })))
     → result ≡ Ok (record { time = record { seconds = s; offset = o }; has_offset = true; ignored = None })
@@ -101,7 +101,7 @@ by-seconds tz this (negsuc n) o result past written instant h = absurd cc
 by-seconds tz this (pos n) o result past written instant h =
     grind (arith, instant_holds, and_parts, said_at, minutes_of, raw-said, signed_arith, date-is, minutes-back)
 
-pub raw_back : (tz : TimeZone) (this : Now) (now : Moment) (t : Time) (text : List ℕ) (result : Result ReadDate DateError)
+pub raw_back : (tz : TimeZone) (this : Now) (now : Moment) (t : Time) (text : List ℕ) (result : Result ExactDate DateError)
     → is_instant t.seconds ≡ true
     → shown now (own Raw) t ≡ Some text → result ≡ date_of tz (said_by this (at_sign ∷ text))
     → result ≡ Ok (record { time = t; has_offset = true; ignored = None })

@@ -30,7 +30,7 @@ use Rattle.git_date.specs.Show.Clocks.{Moment}
 use Rattle.git_date.specs.Tokens.Tokens.{Digits, tokens}
 use Rattle.git_date.specs.Types.Names.{Now, Said}
 use Rattle.git_date.specs.Rules.Words.{without_ending}
-use Rattle.git_date.specs.declared.reader.ReadDate.{ReadDate}
+use Rattle.git_date.specs.declared.reader.ExactDate.{ExactDate}
 use Rattle.git_date.specs.declared.mode.DateKind.TheVariants.{Raw, Unix}
 use Rattle.git_date_laws.proofs.Printing.PrintedBack.{zone-is}
 use Rattle.git_date_laws.proofs.Printing.RawBack.{date-is, decimal-number}
@@ -52,22 +52,22 @@ alone-said now n first last =
     ∙ epoch-says n None (decimal n) last
 
 -- the time of such seconds
-at-seconds : (said : Said) (minutes : ℤ) (date : ReadDate) → date_at said minutes ≡ Ok date
+at-seconds : (said : Said) (minutes : ℤ) (date : ExactDate) → date_at said minutes ≡ Ok date
     → (date.time.seconds ≡ instant_seconds said minutes) × (date.ignored ≡ said.ignored)
 unfolding date_at
 at-seconds said minutes date e = grind (arith)
 
-alone-in : (n : ℕ) (offset : Option ℤ) (date : ReadDate) → date_in (said_alone n) offset ≡ Ok date
+alone-in : (n : ℕ) (offset : Option ℤ) (date : ExactDate) → date_in (said_alone n) offset ≡ Ok date
     → (date.time.seconds ≡ pos n) × (date.ignored ≡ None)
 alone-in n (Some offset) date e = at-seconds (said_alone n) _ date e
 alone-in n None date e = absurd cc
 
-alone-read : (this : Now) (tz : TimeZone) (s : ℤ) (date : ReadDate) → IsEpoch s → date_of tz (said_by this (decimal_text s)) ≡ Ok date
+alone-read : (this : Now) (tz : TimeZone) (s : ℤ) (date : ExactDate) → IsEpoch s → date_of tz (said_by this (decimal_text s)) ≡ Ok date
     → (date.time.seconds ≡ s) × (date.ignored ≡ None)
 alone-read this tz (negsuc n) date h e = absurd (omega (arith, signed_arith, h))
 alone-read this tz (pos n) date h e = grind (arith, alone-in, alone-said, signed_arith)
 
-pub unix-alone : (this : Now) (at : Moment) (local : Bool) (tz : TimeZone) (t : Time) (text : List ℕ) (date : ReadDate) → IsEpoch t.seconds
+pub unix-alone : (this : Now) (at : Moment) (local : Bool) (tz : TimeZone) (t : Time) (text : List ℕ) (date : ExactDate) → IsEpoch t.seconds
     → shown at (record { kind = Unix; local = local }) t ≡ Some text → date_of tz (said_by this text) ≡ Ok date
     → (date.time.seconds ≡ t.seconds) × (date.ignored ≡ None)
 unfolding shown

@@ -16,7 +16,7 @@ use Rattle.git_date.specs.Tokens.Strings.{string_len, nul_place}
 use Rattle.git_date.specs.Types.Names.{Said}
 use Rattle.git_date.proofs.Text.StringEnds.{within}
 use Rattle.git_date.specs.declared.approximate.Approximate.{Approximate}
-use Rattle.git_date.specs.declared.reader.ReadDate.{ReadDate}
+use Rattle.git_date.specs.declared.reader.ExactDate.{ExactDate}
 use Rattle.git_date.specs.declared.error.DateError.{DateError}
 use Rattle.git_date.specs.declared.error.DateError.TheVariants.{Unreadable}
 use Rattle.git_date_laws.proofs.Alike.Texts.{same-case, equal-bytes}
@@ -24,7 +24,7 @@ use Rattle.git_date_laws.proofs.Alike.ApproximateTexts.{guess-lower, lower}
 use Rattle.git_date_laws.proofs.Back.FixedZones.{fixed-states}
 use Rattle.git_date_laws.specs.ApproximateLaws.{HasExactAnswer, HasOneAnswer, HasAnswerInAnyCase}
 
-abbrev exact_of : Zoned → List ℕ → States → Result ReadDate DateError → Result Approximate DateError
+abbrev exact_of : Zoned → List ℕ → States → Result ExactDate DateError → Result Approximate DateError
 exact_of moment text zone exact = exact_or_guess exact (guess zone (now_of moment) text)
 
 pub exact_answers : (moment : Zoned) (text : List ℕ) → HasExactAnswer moment text

@@ -28,7 +28,7 @@ use Rattle.git_date.specs.Rules.Words.{is_filler, without_ending}
 use Rattle.git_date.specs.Types.FaultCases.{NumberTooLarge}
 use Rattle.git_date.specs.Types.Names.{Draft, Fault, Fields, Now, Number, Today, LastShown, ZoneClock, ZoneState}
 use Rattle.git_date.specs.declared.approximate.Approximate.{Approximate}
-use Rattle.git_date.specs.declared.reader.ReadDate.{ReadDate}
+use Rattle.git_date.specs.declared.reader.ExactDate.{ExactDate}
 use Rattle.git_date.specs.declared.error.DateError.{DateError}
 use Rattle.git_date_laws.proofs.Alike.Cuts.{same-ok}
 use Rattle.git_date_laws.proofs.Whole.EveryZone.{now-reached, now-timed}
@@ -216,7 +216,7 @@ module _ (moment : Zoned) (found : IsFoundNow moment) where
           ∙ string-guessed (before_nul text) inner is (ap (λ (x : Approximate). x.understood) same ∙ silent)
       by (Err x) is e = absurd cc
 
-  exact-or : (text : List ℕ) (date : Approximate) (exact : Result ReadDate DateError)
+  exact-or : (text : List ℕ) (date : Approximate) (exact : Result ExactDate DateError)
       → exact_or_guess exact (guess zone this text) ≡ Ok date
       → date.understood ≡ false → date.time ≡ itself
   exact-or text date (Ok read) e silent =

@@ -17,7 +17,7 @@ use Rattle.gix_date.specs.declared.time.Time.{Time}
 use Rattle.git_date.specs.Approximate.Reading.{ApproximateOutcome}
 use Rattle.git_date.specs.Exact.Outcome.{DateOutcome, IsPlaceIn}
 use Rattle.git_date.specs.declared.approximate.Approximate.{Approximate}
-use Rattle.git_date.specs.declared.reader.ReadDate.{ReadDate}
+use Rattle.git_date.specs.declared.reader.ExactDate.{ExactDate}
 use Rattle.git_date.specs.declared.error.DateError.{DateError}
 use Rattle.git_date_tool.specs.Answers.Refusals.{of_git, of_careful, of_gix}
 use Rattle.git_date_tool.specs.declared.answers.Reader.{Reader}
@@ -28,7 +28,7 @@ use Rattle.git_date_tool.specs.declared.answers.refusals.Refusal.{Refusal}
 use Rattle.git_date_tool.specs.declared.answers.refusals.Refusal.TheVariants.{NotText, NotUnderstood, Ignored, NoHeader, NotCanonical}
 
 -- an exact date is understood
-abbrev pub of_exact : ReadDate → Approximate
+abbrev pub of_exact : ExactDate → Approximate
 of_exact date = record { time = date.time; understood = true; ignored = date.ignored }
 
 -- a time of which nothing was ignored
@@ -42,7 +42,7 @@ careful_options = record { raw = Quarter; without_offset = MomentsZone; texts = 
 -- the exact reader of Git finds this
 abbrev pub IsExactly : Zoned → List ℕ → Result Approximate Refusal → Type 0
 IsExactly now text found =
-    (result : Result ReadDate DateError) × DateOutcome now text result × (found ≡ result_map_both of_exact of_git result)
+    (result : Result ExactDate DateError) × DateOutcome now text result × (found ≡ result_map_both of_exact of_git result)
 
 -- the approximate reader of Git finds this
 abbrev pub IsApproximately : Zoned → List ℕ → Result Approximate Refusal → Type 0

@@ -7,7 +7,7 @@ use Rattle.streams.specs.Moments.{moment_or_why}
 use Rattle.streams.specs.declared.program.NoMoment.{NoMoment}
 use Rattle.streams.specs.declared.program.NoMoment.TheVariants.{Conversion}
 use Rattle.git_date.specs.Exact.Outcome.{DateOutcomeAt}
-use Rattle.git_date.specs.declared.reader.ReadDate.{ReadDate}
+use Rattle.git_date.specs.declared.reader.ExactDate.{ExactDate}
 use Rattle.git_date.specs.declared.error.DateError.{DateError}
 
 -- the last instant, in nanoseconds since 1970: no date is ahead of it
@@ -30,11 +30,11 @@ IsInstantOfDate t None text nanos = IsInstantAt t.seconds nanos
 IsInstantOfDate t (Some place) text nanos = IsInstantOfMoment (moment_or_why text) nanos
 
 -- the instant of an exact date, and of a text that is none that of a moment of gix-date
-abbrev pub IsInstantBy : Result ReadDate DateError → List ℕ → Result ℤ NoMoment → Type 0
+abbrev pub IsInstantBy : Result ExactDate DateError → List ℕ → Result ℤ NoMoment → Type 0
 IsInstantBy (Ok date) text nanos = IsInstantOfDate date.time date.ignored text nanos
 IsInstantBy (Err e) text nanos = IsInstantOfMoment (moment_or_why text) nanos
 
 -- the instant of NOW: of an exact date of Git, in this zone if it names no offset, or else of a moment of gix-date
 abbrev pub IsInstantOf : TimeZone → List ℕ → Result ℤ NoMoment → Type 0
 IsInstantOf zone text nanos =
-    (exact : Result ReadDate DateError) × DateOutcomeAt last_instant zone text exact × IsInstantBy exact text nanos
+    (exact : Result ExactDate DateError) × DateOutcomeAt last_instant zone text exact × IsInstantBy exact text nanos

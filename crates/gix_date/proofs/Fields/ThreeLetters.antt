@@ -10,15 +10,15 @@ use Rattle.std.proofs.lemmas.List.Quantifiers.{position-Some}
 use Rattle.gix_date.specs.Careful.Dates.{day_named}
 use Rattle.gix_date.specs.Fields.DateFields.{month_named, is_weekday}
 use Rattle.gix_date.specs.Fields.FieldTexts.{AreThreeLetters}
-use Rattle.gix_date.specs.Text.LongNames.{month_told, weekday_told}
+use Rattle.gix_date.specs.Text.LongNames.{month_of_word, weekday_of_word}
 use Rattle.gix_date.specs.Text.Names.{is_name, month_names, day_names}
 
-pub month-is : (a b c : ℕ) → month_told (a ∷ b ∷ c ∷ []) ≡ month_named (a ∷ b ∷ c ∷ [])
-unfolding month_told month_named
+pub month-is : (a b c : ℕ) → month_of_word (a ∷ b ∷ c ∷ []) ≡ month_named (a ∷ b ∷ c ∷ [])
+unfolding month_of_word month_named
 month-is a b c = refl
 
-pub day_is_named : (a b c : ℕ) → weekday_told (a ∷ b ∷ c ∷ []) ≡ day_named (a ∷ b ∷ c ∷ [])
-unfolding weekday_told day_named
+pub day_is_named : (a b c : ℕ) → weekday_of_word (a ∷ b ∷ c ∷ []) ≡ day_named (a ∷ b ∷ c ∷ [])
+unfolding weekday_of_word day_named
 day_is_named a b c = refl
 
 is-some : {X : Type 0} (b : Bool) (x : X) → is_some (cond b (Some x) None) ≡ b
@@ -36,7 +36,7 @@ lt-any p (x ∷ xs) = by (p x) (position_or_len p xs) (length xs) (list_any p xs
 some-any : {X : Type 0} (p : X → Bool) (xs : List X) → is_some (position p xs) ≡ list_any p xs
 some-any p xs = is-some (nat_lt (position_or_len p xs) (length xs)) (position_or_len p xs) ∙ lt-any p xs
 
-pub weekday_is : (a b c : ℕ) → is_some (weekday_told (a ∷ b ∷ c ∷ [])) ≡ is_weekday (a ∷ b ∷ c ∷ [])
+pub weekday_is : (a b c : ℕ) → is_some (weekday_of_word (a ∷ b ∷ c ∷ [])) ≡ is_weekday (a ∷ b ∷ c ∷ [])
 unfolding is_weekday day_named
 weekday_is a b c = ap is_some (day_is_named a b c) ∙ some-any (is_name (a ∷ b ∷ c ∷ [])) day_names
 
@@ -65,7 +65,7 @@ letters-at a b c names k h e =
     let at = position-Some (is_name (a ∷ b ∷ c ∷ [])) names k [] e in
     like-letters a b c (get_or names k []) at.1 (all-at (list_all is_ascii_alphabetic) names k h at.0)
 
-pub month_has_letters : (a b c : ℕ) → is_some (month_told (a ∷ b ∷ c ∷ [])) ≡ true → AreThreeLetters (a ∷ b ∷ c ∷ [])
+pub month_has_letters : (a b c : ℕ) → is_some (month_of_word (a ∷ b ∷ c ∷ [])) ≡ true → AreThreeLetters (a ∷ b ∷ c ∷ [])
 unfolding month_named
 month_has_letters a b c e = by (position (is_name (a ∷ b ∷ c ∷ [])) month_names) refl (ap is_some (sym (month-is a b c)) ∙ e)
   where
@@ -75,7 +75,7 @@ month_has_letters a b c e = by (position (is_name (a ∷ b ∷ c ∷ [])) month_
     by (Some k) e h = letters-at a b c month_names k refl e
 
 -- what the attribute of a function names, for which a dash is no letter
-pub ruleset months_told = (month-is, month_has_letters)
+pub ruleset months_of_words = (month-is, month_has_letters)
 
 pub day_has_letters : (a b c : ℕ) → is_weekday (a ∷ b ∷ c ∷ []) ≡ true → AreThreeLetters (a ∷ b ∷ c ∷ [])
 unfolding is_weekday

@@ -11,7 +11,7 @@ use Rattle.std.proofs.lemmas.Bool.Decides.{nat_tests}
 use Rattle.std.proofs.lemmas.List.Quantifiers.{position-Some}
 use Rattle.std.specs.Int.{IsInRange}
 use Rattle.gix_date.specs.Text.Names.{is_name, name_row, value_named, whole_month_names}
-use Rattle.gix_date.specs.Text.LongNames.{begins, is_short, tells, month_told, month_by, long_day_names, weekday_told, weekday_by}
+use Rattle.gix_date.specs.Text.LongNames.{begins, is_short, tells, month_of_word, month_by, long_day_names, weekday_of_word, weekday_by}
 
 le-three : (m n : ℕ) (b : Bool) → nat_le m n ≡ b → nat_le (suc (suc (suc m))) (suc (suc (suc n))) ≡ b
 le-three m n true e = grind (arith, nat_tests)
@@ -38,13 +38,13 @@ short-tells a b c end (x ∷ y ∷ z ∷ rest) =
     (to_ascii_lowercase c == to_ascii_lowercase z) (is_name end (take (length end) rest)))
 
 pub month-letters : (a b c : ℕ) (end : List ℕ)
-    → month_told (a ∷ b ∷ c ∷ end) ≡ month_by (to_ascii_lowercase a) (to_ascii_lowercase b) (to_ascii_lowercase c) end
-unfolding month_told
+    → month_of_word (a ∷ b ∷ c ∷ end) ≡ month_by (to_ascii_lowercase a) (to_ascii_lowercase b) (to_ascii_lowercase c) end
+unfolding month_of_word
 month-letters a b c end = λ i. option_map (λ place. place + 1) (position (λ name. short-tells a b c end name i) whole_month_names)
 
 pub weekday-letters : (a b c : ℕ) (end : List ℕ)
-    → weekday_told (a ∷ b ∷ c ∷ end) ≡ weekday_by (to_ascii_lowercase a) (to_ascii_lowercase b) (to_ascii_lowercase c) end
-unfolding weekday_told
+    → weekday_of_word (a ∷ b ∷ c ∷ end) ≡ weekday_by (to_ascii_lowercase a) (to_ascii_lowercase b) (to_ascii_lowercase c) end
+unfolding weekday_of_word
 weekday-letters a b c end = λ i. position (λ name. short-tells a b c end name i) long_day_names
 
 -- two letters or fewer tell none
@@ -52,12 +52,12 @@ two-tell : (word name : List ℕ) → length word < 3 → is_short word name ≡
 two-tell word name h = let few : nat_le 3 (length word) ≡ false = grind (arith, nat_tests) in
     and_left (nat_le 3 (length word)) (begins word name) few
 
-pub no_month : (word : List ℕ) → length word < 3 → month_told word ≡ None
-unfolding month_told
+pub no_month : (word : List ℕ) → length word < 3 → month_of_word word ≡ None
+unfolding month_of_word
 no_month word h = λ i. option_map (λ place. place + 1) (position (λ name. two-tell word name h i) whole_month_names)
 
-pub no_weekday : (word : List ℕ) → length word < 3 → weekday_told word ≡ None
-unfolding weekday_told
+pub no_weekday : (word : List ℕ) → length word < 3 → weekday_of_word word ≡ None
+unfolding weekday_of_word
 no_weekday word h = λ i. position (λ name. two-tell word name h i) long_day_names
 
 -- a word of three letters or more
@@ -79,16 +79,16 @@ module _ (word : List ℕ) (u v w : ℕ) (long : 3 ≤ length word) (first : u �
       ≡ F (to_ascii_lowercase (get_or word 0 0)) (to_ascii_lowercase (get_or word 1 0)) (to_ascii_lowercase (get_or word 2 0)) rest
   letters F = λ i. F (first i) (second i) (third i) rest
 
-  pub month_found : month_by u v w rest ≡ month_told word
-  month_found = letters month_by ∙ sym (month-letters (get_or word 0 0) (get_or word 1 0) (get_or word 2 0) rest) ∙ ap month_told whole
+  pub month_found : month_by u v w rest ≡ month_of_word word
+  month_found = letters month_by ∙ sym (month-letters (get_or word 0 0) (get_or word 1 0) (get_or word 2 0) rest) ∙ ap month_of_word whole
 
-  pub weekday_found : weekday_by u v w rest ≡ weekday_told word
+  pub weekday_found : weekday_by u v w rest ≡ weekday_of_word word
   weekday_found = letters weekday_by ∙ sym (weekday-letters (get_or word 0 0) (get_or word 1 0) (get_or word 2 0) rest)
-      ∙ ap weekday_told whole
+      ∙ ap weekday_of_word whole
 
 -- months are counted from 1 to 12
-pub month_in_range : (word : List ℕ) (found : Option ℕ) → found ≡ month_told word → IfSome found (λ month. IsInRange 1 12 month)
-unfolding month_told
+pub month_in_range : (word : List ℕ) (found : Option ℕ) → found ≡ month_of_word word → IfSome found (λ month. IsInRange 1 12 month)
+unfolding month_of_word
 month_in_range word found e =
     subst (λ (o : Option ℕ). IfSome o (λ month. IsInRange 1 12 month)) (sym e) (by (position (is_short word) whole_month_names) refl)
   where
@@ -97,8 +97,8 @@ month_in_range word found e =
     by None e = tt
     by (Some k) e = let at = position-Some (is_short word) whole_month_names k [] e in omega (arith, at.0)
 
-pub weekday_in_range : (word : List ℕ) (found : Option ℕ) → found ≡ weekday_told word → IfSome found (λ weekday. weekday < 7)
-unfolding weekday_told
+pub weekday_in_range : (word : List ℕ) (found : Option ℕ) → found ≡ weekday_of_word word → IfSome found (λ weekday. weekday < 7)
+unfolding weekday_of_word
 weekday_in_range word found e =
     subst (λ (o : Option ℕ). IfSome o (λ weekday. weekday < 7)) (sym e) (by (position (is_short word) long_day_names) refl)
   where

@@ -24,12 +24,12 @@ long_day_names =
     ∷ codes "Sundays" ∷ []
 
 -- the month that a word tells, from 1
-unfoldable pub month_told : List ℕ → Option ℕ
-month_told word = option_map (λ place. place + 1) (position (is_short word) whole_month_names)
+unfoldable pub month_of_word : List ℕ → Option ℕ
+month_of_word word = option_map (λ place. place + 1) (position (is_short word) whole_month_names)
 
 -- the day of the week that a word tells, from 0 for Monday
-unfoldable pub weekday_told : List ℕ → Option ℕ
-weekday_told word = position (is_short word) long_day_names
+unfoldable pub weekday_of_word : List ℕ → Option ℕ
+weekday_of_word word = position (is_short word) long_day_names
 
 -- a name begins with these small letters, in any letter case, and goes on with what begins so
 abbrev pub tells : ℕ → ℕ → ℕ → List ℕ → List ℕ → Bool

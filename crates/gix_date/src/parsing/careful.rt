@@ -7,7 +7,7 @@ ghost use Rattle.gix_date.specs.declared.parsing.careful.Texts.TheVariants.{Care
 ghost use Rattle.gix_date.specs as Spec;
 
 use crate::error::{CarefulError, ParseError};
-use crate::names::weekday_told;
+use crate::names::weekday_of_word;
 use crate::parsing::Answer;
 use crate::parsing::dates::{MIN_EPOCH, first_answer, outcome};
 use crate::parsing::fronts::longest_front;
@@ -306,7 +306,7 @@ fn first_day(input: &str) -> Option<u8>
 fn day_named(a: u8, b: u8, c: u8) -> Option<u8>
     ensures { result ≡ Spec.day_named (a ∷ b ∷ c ∷ []) }
 {
-    weekday_told(&[a, b, c])
+    weekday_of_word(&[a, b, c])
 }
 
 /// The day of the week by the time's own clock, from 0 for Monday.

@@ -113,6 +113,23 @@ until beyond rest left done room (inr ended) is (inr full) = inr (ended, full)
 front-bytes : (block left front beyond : List ℕ) → block ≡ front ++ beyond → left ≡ beyond → length block - length left ≡ length front
 front-bytes block left front beyond whole is = omega (arith, length-append front beyond, ap length whole, ap length is)
 
+before : (block left line after : List ℕ) (lines : List (List ℕ)) (far : SoFar block left lines)
+    → (far.part.beyond ≡ []) ⊎ (far.part.rest ≡ []) → IsCutAfter left (line, after)
+    → length block - length left ≡ length (flat_map with_newline lines)
+before block left line after lines far (inl none) cut = absurd (no-more left line after (far.left_is ∙ none) cut)
+before block left line after lines far (inr ended) cut =
+    let p = far.part in
+    let same : lines ≡ p.lines = far.lines_are ∙ ap (λ xs. p.lines ++ last_line xs) ended ∙ append-nil p.lines in
+    let front : p.front ≡ flat_map with_newline p.lines =
+    p.splits.whole ∙ ap (λ xs. flat_map with_newline p.lines ++ xs) ended ∙ append-nil (flat_map with_newline p.lines) in
+    front-bytes block left p.front p.beyond p.whole far.left_is
+    ∙ ap (λ (xs : List ℕ). length xs) (front ∙ ap (λ ls. flat_map with_newline ls) (sym same))
+
+-- how many bytes stand before one line more
+pub SoFar-before : (block left line after : List ℕ) (lines : List (List ℕ)) → SoFar block left lines → IsCutAfter left (line, after)
+    → length block - length left ≡ length (flat_map with_newline lines)
+SoFar-before block left line after lines far cut = before block left line after lines far far.goes_on cut
+
 -- no line follows, or there is no room for it
 pub SoFar-first : (block left : List ℕ) (lines : List (List ℕ)) (room : ℕ) → SoFar block left lines → length lines ≤ room
     → (left ≡ []) ⊎ (length lines ≡ room) → AreFirstLines block room lines (length block - length left)

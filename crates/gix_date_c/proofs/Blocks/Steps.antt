@@ -51,14 +51,13 @@ pub Reading-next : (Reads : List ℕ → Result CTime Status → Type 0) (block 
     → newer ≡ with_answer done answer new → Reading Reads block old newer (after, done + 1)
 Reading-next Reads block old new newer left line after done answer h room cut reads put =
     let many : done ≡ length h.answers = h.counted ∙ sym (AllZip-long Reads h.lines h.answers h.each) in
-    let space : length h.answers < room_of old = subst (λ n. n < room_of old) many room in
     record {
       lines = h.lines ++ line ∷ [];
       answers = h.answers ++ answer ∷ [];
       so_far = SoFar-next block left line after h.lines h.so_far cut;
       each = AllZip-more Reads h.lines h.answers line answer h.each reads;
       stored = put ∙ ap (λ n. with_answer n answer new) many ∙ ap (λ cells. with_answer (length h.answers) answer cells) h.stored
-          ∙ stored-next h.answers answer old space;
+          ∙ stored-next h.answers answer old;
       counted = omega (arith, length-append h.lines (line ∷ []), h.counted);
       within = omega arith;
     }
@@ -91,13 +90,12 @@ pub Checking-next : (block old new newer left line after : List ℕ) (done : ℕ
     → IsCutAfter left (line, after) → newer ≡ set new done (bool_for_c (is_canonical_header line))
     → Checking block old newer (after, done + 1)
 Checking-next block old new newer left line after done h room cut put =
-    let space : length h.lines < length old = subst (λ n. n < length old) h.counted room in
     let cell = bool_for_c (is_canonical_header line) in
     record {
       lines = h.lines ++ line ∷ [];
       so_far = SoFar-next block left line after h.lines h.so_far cut;
       stored = put ∙ ap (λ n. set new n cell) h.counted ∙ ap (λ cells. set cells (length h.lines) cell) h.stored
-          ∙ sym (changed-set (λ line cell. bool_for_c (is_canonical_header line)) h.lines line old cell (λ _. refl) space);
+          ∙ sym (changed-set (λ line cell. bool_for_c (is_canonical_header line)) h.lines line old cell (λ _. refl));
       counted = omega (arith, length-append h.lines (line ∷ []), h.counted);
       within = omega arith;
     }

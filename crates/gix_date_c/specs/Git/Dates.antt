@@ -8,7 +8,7 @@ use Rattle.git_date.specs.Exact.Outcome.{DateOutcomeAt, HasPlacesIn}
 use Rattle.git_date.specs.declared.approximate.Approximate.{Approximate}
 use Rattle.git_date.specs.declared.approximate.expiry.Expiry.{Expiry}
 use Rattle.git_date.specs.declared.approximate.expiry.Expiry.TheVariants.{Never, All, Before}
-use Rattle.git_date.specs.declared.reader.ReadDate.{ReadDate}
+use Rattle.git_date.specs.declared.reader.ExactDate.{ExactDate}
 use Rattle.git_date.specs.declared.error.DateError.{DateError}
 use Rattle.git_date.specs.declared.error.DateError.TheVariants as errors
 use Rattle.gix_date_c.specs.Moments.{Place}
@@ -36,7 +36,7 @@ ignored_place ignored = unwrap_or ignored (2 ^ 64 - 1)
 abbrev pub bool_for_c : Bool → ℕ
 bool_for_c b = if b then 1 else 0
 
-abbrev pub exact_of : ReadDate → CExact
+abbrev pub exact_of : ExactDate → CExact
 exact_of date =
     record {
       time = time_for_c date.time;
@@ -61,7 +61,7 @@ expiry_of old (Before date) = record { kind = 2; before = approximate_of date }
 -- what the exact reader comes to at an instant in a zone, as C has it: the library's outcome, of which each place is in the text
 abbrev pub IsExact : Place → List ℕ → Result CExact Refusal → Type 0
 IsExact place text answer =
-    (date : Result ReadDate DateError) × DateOutcomeAt place.0 place.1 text date
+    (date : Result ExactDate DateError) × DateOutcomeAt place.0 place.1 text date
     × HasPlacesIn text date × (answer ≡ result_map_both exact_of date_refusal date)
 
 -- the same of the approximate reader

@@ -32,8 +32,8 @@ offset_after (Ok time) old = time.offset
 offset_after (Err refusal) old = old
 
 -- the number of the status, whatever was there
-abbrev pub status_after : Result CTime Status → ℕ → ℕ
-status_after (Ok time) old = number_of Done
+abbrev pub status_after : {T : Type 0} → Result T Status → ℕ → ℕ
+status_after (Ok value) old = number_of Done
 status_after (Err refusal) old = number_of refusal
 
 -- the arrays with these answers, from the first cell on

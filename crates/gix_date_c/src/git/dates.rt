@@ -12,7 +12,7 @@ use crate::values::store::store_read;
 use crate::values::time::{CTime, time_for_c};
 use crate::zone::ShownZone;
 use git_date::{
-    Approximate, Expiry, ReadDate, approxidate, expiry_date, parse_date, parse_date_at,
+    Approximate, ExactDate, Expiry, approxidate, expiry_date, parse_date, parse_date_at,
 };
 use gix_date::Zoned;
 use jiff::Timestamp;
@@ -68,7 +68,7 @@ pub(crate) fn read_exact_now(text: &[u8], now: Result<Zoned<'_>, Status>) -> Res
 }
 
 /// A date as C has it.
-fn exact_of(date: ReadDate) -> CExact
+fn exact_of(date: ExactDate) -> CExact
     ensures { result ≡ Spec.exact_of date }
 {
     CExact {

@@ -61,7 +61,7 @@ pub(crate) enum Status {
     WidthTooLarge = 26,
     /// Git finds no identity in the line.
     NoIdentity = 27,
-    /// The name or the mail of a line to write holds NUL.
+    /// The name or the email of a line to write holds NUL.
     NulInPart = 28,
     /// The name has no bytes.
     EmptyName = 29,

@@ -1,4 +1,5 @@
-//! What calls answer, compared apart from the tests: a test that held the texts would drop each on every path that leaves it.
+//! What calls answer, compared apart from the tests: a test that held the texts would drop each on every path that leaves it. So an
+//! assertion is a call, and no path of its own.
 use gix_date::Error;
 use gix_date::parsing::TimeBuf;
 use std::alloc::Global;
@@ -73,6 +74,16 @@ pub fn debug_has<T: Debug>(alloc: Global, value: &T, part: &str) -> bool {
         Ok(form) => !form.is_empty() && form.contains(part),
         Err(_) => false,
     }
+}
+
+/// Ends the test where this is not so.
+pub fn check(rt: &impl Abort, is_so: bool) {
+    assert!(rt; is_so);
+}
+
+/// Ends the test where this is not so, and tells of what.
+pub fn check_at<T: Debug>(rt: &impl Abort, is_so: bool, what: &T) {
+    assert!(rt; is_so, "{what:?}");
 }
 
 /// Each value with the text that shows it, and with its debug form.

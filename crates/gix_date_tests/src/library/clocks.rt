@@ -1,4 +1,5 @@
 //! What clocks show, and their texts.
+use crate::fakes::answers::check;
 use arrayvec::ArrayString;
 use gix_date::Time;
 use gix_date::clock::{
@@ -18,10 +19,13 @@ fn clocks_show_what_date_shows(rt: HostRuntime) {
         (-1, 0, (1969, 12, 31, 2), (23, 59, 59)),
     ] {
         let shown = own_clock(Time::new(seconds, offset)).expect(&rt, "no clock");
-        assert!(rt; (shown.year(), shown.month(), shown.day(), shown.weekday()) == date);
-        assert!(rt; (shown.hour(), shown.minute(), shown.second()) == clock);
-        assert!(rt; shown.offset() == offset);
-        assert!(rt; shown.with_offset(-60).offset() == -60);
+        check(
+            &rt,
+            (shown.year(), shown.month(), shown.day(), shown.weekday()) == date,
+        );
+        check(&rt, (shown.hour(), shown.minute(), shown.second()) == clock);
+        check(&rt, shown.offset() == offset);
+        check(&rt, shown.with_offset(-60).offset() == -60);
     }
 }
 
@@ -39,9 +43,10 @@ fn clocks_are_written_as_git_writes_them(rt: HostRuntime) {
     push_bare_default(&mut text, clock);
     text.push(';');
     push_day(&mut text, clock);
-    assert!(rt;
+    check(
+        &rt,
         text.as_str()
-            == "2022-08-09 07:15:06 +0800;2022-08-09T07:15:06+08:00;Tue, 9 Aug 2022 07:15:06 +0800;Tue Aug 9 07:15:06 2022;9"
+            == "2022-08-09 07:15:06 +0800;2022-08-09T07:15:06+08:00;Tue, 9 Aug 2022 07:15:06 +0800;Tue Aug 9 07:15:06 2022;9",
     );
     let mut others = ArrayString::<100>::new();
     push_default(&mut others, clock);
@@ -49,15 +54,22 @@ fn clocks_are_written_as_git_writes_them(rt: HostRuntime) {
     push_rfc2822(&mut others, clock);
     others.push(';');
     push_gitoxide(&mut others, clock);
-    assert!(rt;
+    check(
+        &rt,
         others.as_str()
-            == "Tue Aug 9 07:15:06 2022 +0800;Tue, 09 Aug 2022 07:15:06 +0800;Tue Aug 09 2022 07:15:06 +0800"
+            == "Tue Aug 9 07:15:06 2022 +0800;Tue, 09 Aug 2022 07:15:06 +0800;Tue Aug 09 2022 07:15:06 +0800",
     );
 }
 
 #[test]
 fn a_caller_writes_the_day_and_the_clock(rt: HostRuntime) {
     let shown = day_and_clock(Time::new(1_660_797_906, 28_800));
-    assert!(rt; matches!(shown, Some(text) if text.as_str() == "Thu 12:45:06"));
-    assert!(rt; day_and_clock(Time::new(1_660_797_906, 28_801)).is_none());
+    check(
+        &rt,
+        matches!(shown, Some(text) if text.as_str() == "Thu 12:45:06"),
+    );
+    check(
+        &rt,
+        day_and_clock(Time::new(1_660_797_906, 28_801)).is_none(),
+    );
 }

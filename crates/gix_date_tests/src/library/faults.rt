@@ -1,5 +1,5 @@
 //! The faults of `gix_date`: the texts that they carry, and what they show.
-use crate::fakes::answers::{all_show, debug_has, shows};
+use crate::fakes::answers::{all_show, check, check_at, debug_has, shows};
 use crate::library::names::{comes_back, refused};
 use gix_date::{Error, ParseError};
 use std::alloc::{AllocError, Global};
@@ -24,9 +24,9 @@ const UNKNOWN_X: &str =
 #[test]
 fn a_refused_text_shows_as_itself(rt: HostRuntime) {
     let input = refused(rt.alloc(), "1:2 \u{e9}", None).expect(&rt, "a date");
-    assert!(rt; input.as_bytes() == b"1:2 \xc3\xa9".as_slice());
-    assert!(rt; shows(rt.alloc(), &input, "1:2 \u{e9}"));
-    assert!(rt; debug_has(rt.alloc(), &input, ""));
+    check(&rt, input.as_bytes() == b"1:2 \xc3\xa9".as_slice());
+    check(&rt, shows(rt.alloc(), &input, "1:2 \u{e9}"));
+    check(&rt, debug_has(rt.alloc(), &input, ""));
 }
 
 /// The two faults that carry this text.
@@ -42,8 +42,8 @@ fn carrying(alloc: Global, text: &str) -> Option<[Error; 2]> {
 /// A fault that carries a quotation with a newline.
 fn is_quoted_in_one_line(rt: &impl Abort, alloc: Global, fault: &Error) -> Result<(), AllocError> {
     let text = format!(in alloc; "{fault}")?;
-    assert!(rt; text.contains("\"1\\n \\\"2\\\"\""), "{text}");
-    assert!(rt; !text.contains('\n'), "{text}");
+    check_at(rt, text.contains("\"1\\n \\\"2\\\"\""), &text);
+    check_at(rt, !text.contains('\n'), &text);
     Ok(())
 }
 
@@ -60,9 +60,10 @@ fn a_text_of_any_length_comes_back(rt: HostRuntime) {
     for length in [1, 26, 27, 255, 256, 4095, 65_537, 1_000_000] {
         let bytes = vec![in rt.alloc(); b'x'; length].expect(&rt, "memory");
         let text = str::from_utf8(bytes.as_slice()).unwrap_or("0");
-        assert!(rt;
+        check_at(
+            &rt,
             text.len() == length && comes_back(rt.alloc(), text, None),
-            "{length}"
+            &length,
         );
     }
 }
@@ -104,13 +105,14 @@ fn each_fault_says_what_is_wrong(rt: HostRuntime) {
 #[test]
 fn a_refused_text_stands_in_its_fault(rt: HostRuntime) {
     let faults = carrying(rt.alloc(), "x").expect(&rt, "a date");
-    assert!(rt; shows(rt.alloc(), &faults[0], UNKNOWN_X));
-    assert!(rt;
+    check(&rt, shows(rt.alloc(), &faults[0], UNKNOWN_X));
+    check(
+        &rt,
         shows(
             rt.alloc(),
             &faults[1],
-            "the date is beyond the last instant that can be computed with: \"x\""
-        )
+            "the date is beyond the last instant that can be computed with: \"x\"",
+        ),
     );
 }
 

@@ -1,9 +1,9 @@
 //! Dates as Git reads them: what the rows cannot say.
-use crate::fakes::answers::{all_show, debugs};
+use crate::fakes::answers::{all_show, check, debugs};
 use crate::library::names::same;
 use git_date::{
-    DateError, DateKind, DateMode, MACHINE_ZONE, ReadDate, TableError, ZONE_FOLDER, zone_file,
-    zone_folder, zone_of_text, zone_offset, zone_table, zone_without_file,
+    DateError, DateKind, DateMode, ExactDate, MACHINE_ZONE, TableError, ZONE_FOLDER, parse_offset,
+    zone_file, zone_folder, zone_of_text, zone_table, zone_without_file,
 };
 use gix_date::{Time, Zoned};
 use gix_date_callers::approximate_caller::{human, reference_time, since};
@@ -53,29 +53,30 @@ fn each_refusal_says_what_is_wrong(rt: HostRuntime) {
 
 #[test]
 fn dates_and_refusals_have_the_traits_that_callers_count_on(rt: HostRuntime) {
-    let date = ReadDate {
+    let date = ExactDate {
         time: Time::new(1_112_904_793, 7200),
         has_offset: true,
         ignored: None,
     };
     let copied = date;
-    assert!(rt; same(&date, &copied));
-    let other = ReadDate {
+    check(&rt, same(&date, &copied));
+    let other = ExactDate {
         ignored: Some(0),
         ..date
     };
-    assert!(rt; !same(&date, &other));
-    assert!(rt;
+    check(&rt, !same(&date, &other));
+    check(
+        &rt,
         debugs(
             rt.alloc(),
             &date,
-            "ReadDate { time: Time { seconds: 1112904793, offset: 7200 }, has_offset: true, ignored: None }"
-        )
+            "ExactDate { time: Time { seconds: 1112904793, offset: 7200 }, has_offset: true, ignored: None }",
+        ),
     );
     let refusal = DateError::YearRefused(4);
     let kept = refusal;
-    assert!(rt; same(&refusal, &kept));
-    assert!(rt; !same(&refusal, &DateError::YearRefused(5)));
+    check(&rt, same(&refusal, &kept));
+    check(&rt, !same(&refusal, &DateError::YearRefused(5)));
 }
 
 /// The time of a date and what was ignored of it, or the refusal.
@@ -99,14 +100,20 @@ fn a_date_says_what_was_ignored(rt: HostRuntime) {
             Some("\0 +0500"),
         ),
     ] {
-        assert!(rt; told(text, now) == Ok((Time::new(seconds, offset), ignored)));
+        check(
+            &rt,
+            told(text, now) == Ok((Time::new(seconds, offset), ignored)),
+        );
     }
-    assert!(rt; told("2008-02-14", now) == Err(DateError::Unreadable));
+    check(&rt, told("2008-02-14", now) == Err(DateError::Unreadable));
     for &(text, seconds, ignored) in &[
         ("yesterday\0 noon", 1_251_573_600, "\0 noon"),
         ("5 mins ago", 1_249_500_000, "mins ago"),
     ] {
-        assert!(rt; since(text, now) == Ok((Time::new(seconds, 0), Some(ignored))));
+        check(
+            &rt,
+            since(text, now) == Ok((Time::new(seconds, 0), Some(ignored))),
+        );
     }
 }
 
@@ -114,20 +121,32 @@ fn a_date_says_what_was_ignored(rt: HostRuntime) {
 fn a_mail_says_when_it_was_sent(rt: HostRuntime) {
     let now = Time::new(NOW, 0).to_zoned().expect(&rt, "a moment");
     let sent = mail_time("Date: Thu, 07 Apr 2005 22:13:13 +0200", now);
-    assert!(rt; sent == Some(Time::new(1_112_904_793, 7200)));
-    assert!(rt; mail_time("From: Thu, 07 Apr 2005 22:13:13 +0200", now) == None);
-    assert!(rt; mail_time("Date: soon", now) == None);
+    check(&rt, sent == Some(Time::new(1_112_904_793, 7200)));
+    check(
+        &rt,
+        mail_time("From: Thu, 07 Apr 2005 22:13:13 +0200", now) == None,
+    );
+    check(&rt, mail_time("Date: soon", now) == None);
 }
 
 #[test]
 fn dates_of_people_are_read_and_shown_as_git_does(rt: HostRuntime) {
     let now = Time::new(NOW, 0).to_zoned().expect(&rt, "a moment");
     let noon = Time::new(1_251_460_800, 0);
-    assert!(rt; reference_time("last friday at noon", now) == Some(noon));
-    assert!(rt; reference_time("banana", now) == None);
+    check(
+        &rt,
+        reference_time("last friday at noon", now) == Some(noon),
+    );
+    check(&rt, reference_time("banana", now) == None);
     let shown = human(Time::new(1_251_300_000, 7200), now);
-    assert!(rt; matches!(shown, Ok(text) if text.as_str() == "Wed 17:20 +0200"));
-    assert!(rt; human(Time::new(-1, 0), now).err() == Some(DateError::Range));
+    check(
+        &rt,
+        matches!(shown, Ok(text) if text.as_str() == "Wed 17:20 +0200"),
+    );
+    check(
+        &rt,
+        human(Time::new(-1, 0), now).err() == Some(DateError::Range),
+    );
 }
 
 #[test]
@@ -153,7 +172,7 @@ fn a_date_is_read_by_an_instant_and_a_zone(rt: HostRuntime) {
         ),
         ("2005-04-07", Err(DateError::Unreadable)),
     ] {
-        assert!(rt; committed(date, now, zone) == read);
+        check(&rt, committed(date, now, zone) == read);
     }
 }
 
@@ -168,8 +187,11 @@ fn a_date_is_shown_by_an_instant_and_a_zone(rt: HostRuntime) {
         local: true,
     };
     let shown = logged(Time::new(1_112_904_793, 7200), mode, now, zone);
-    assert!(rt; matches!(shown, Some(text) if text.as_str() == "2005-04-07 15:43:13 -0430"));
-    assert!(rt; logged(Time::new(-1, 0), mode, now, zone).is_none());
+    check(
+        &rt,
+        matches!(shown, Some(text) if text.as_str() == "2005-04-07 15:43:13 -0430"),
+    );
+    check(&rt, logged(Time::new(-1, 0), mode, now, zone).is_none());
 }
 
 #[test]
@@ -181,12 +203,12 @@ fn the_offset_of_a_zone_has_hours_and_perhaps_minutes(rt: HostRuntime) {
         ("-0000", 0),
         ("+2559", 93_540),
     ] {
-        assert!(rt; zone_offset(text.as_bytes()) == Some(offset));
+        check(&rt, parse_offset(text.as_bytes()) == Some(offset));
     }
     for text in &[
         "", "0200", "+2600", "+0260", "+2", "+02000", "+02:0", "+02-00", "UTC", " +0200",
     ] {
-        assert!(rt; zone_offset(text.as_bytes()) == None);
+        check(&rt, parse_offset(text.as_bytes()) == None);
     }
 }
 
@@ -204,19 +226,19 @@ fn offset_in_july(zone: Option<TimeZone<'_>>) -> Option<i32> {
 #[test]
 fn a_value_of_tz_names_a_file_unless_it_is_a_rule(rt: HostRuntime) {
     for name in &["Europe/Berlin", "/a/b", "CET-1CEST", "UTC", MACHINE_ZONE] {
-        assert!(rt; zone_file(name) == Some(*name));
+        check(&rt, zone_file(name) == Some(*name));
     }
-    assert!(rt; zone_file(":Europe/Berlin") == Some("Europe/Berlin"));
+    check(&rt, zone_file(":Europe/Berlin") == Some("Europe/Berlin"));
     for tz in &["", ":", "UTC0", ":UTC0", "EST5EDT,M3.2.0,M11.1.0"] {
-        assert!(rt; zone_file(tz) == None);
+        check(&rt, zone_file(tz) == None);
     }
 }
 
 #[test]
 fn a_name_stands_below_a_folder_and_a_path_by_itself(rt: HostRuntime) {
-    assert!(rt; zone_folder("Europe/Berlin", "") == ZONE_FOLDER);
-    assert!(rt; zone_folder("Europe/Berlin", "/z") == "/z");
-    assert!(rt; zone_folder("/a/b", "/z") == "");
+    check(&rt, zone_folder("Europe/Berlin", "") == ZONE_FOLDER);
+    check(&rt, zone_folder("Europe/Berlin", "/z") == "/z");
+    check(&rt, zone_folder("/a/b", "/z") == "");
 }
 
 #[test]
@@ -234,7 +256,7 @@ fn a_text_means_utc_or_a_rule(rt: HostRuntime) {
         ("Europe/Berlin", None),
         (MACHINE_ZONE, None),
     ] {
-        assert!(rt; offset_in_july(zone_of_text(text)) == offset);
+        check(&rt, offset_in_july(zone_of_text(text)) == offset);
     }
 }
 
@@ -248,7 +270,10 @@ fn a_rule_without_dates_changes_on_those_of_the_united_states(rt: HostRuntime) {
         (1_699_100_000, 7200),
         (1_699_200_000, 3600),
     ] {
-        assert!(rt; offset_at(zone_of_text("CET-1CEST"), seconds) == Some(offset));
+        check(
+            &rt,
+            offset_at(zone_of_text("CET-1CEST"), seconds) == Some(offset),
+        );
     }
 }
 
@@ -263,7 +288,7 @@ fn without_a_file_nothing_and_the_machines_zone_are_utc(rt: HostRuntime) {
         (":EST5EDT", Some(-14_400)),
         ("Europe/Berlin", None),
     ] {
-        assert!(rt; offset_in_july(zone_without_file(tz)) == offset);
+        check(&rt, offset_in_july(zone_without_file(tz)) == offset);
     }
 }
 
@@ -289,10 +314,10 @@ fn with_a_leap_second() -> [u8; 62] {
 #[test]
 fn a_file_that_counts_leap_seconds_says_no_zone(rt: HostRuntime) {
     let refused = zone_table(rt.alloc(), &with_a_leap_second()).err();
-    assert!(rt; matches!(refused, Some(TableError::CountsLeapSeconds)));
-    assert!(rt; zone_table(rt.alloc(), &first_version(0)).is_ok());
+    check(&rt, matches!(refused, Some(TableError::CountsLeapSeconds)));
+    check(&rt, zone_table(rt.alloc(), &first_version(0)).is_ok());
     for bytes in [b"".as_slice(), b"TZif", &first_version(1)] {
         let refused = zone_table(rt.alloc(), bytes).err();
-        assert!(rt; matches!(refused, Some(TableError::NotTzif)));
+        check(&rt, matches!(refused, Some(TableError::NotTzif)));
     }
 }

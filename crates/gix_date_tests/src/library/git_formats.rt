@@ -1,9 +1,9 @@
 //! Dates by Git's formats: what the rows cannot say.
-use crate::fakes::answers::{all_show, debugs, reads};
+use crate::fakes::answers::{all_show, check, check_at, debugs, reads};
 use crate::fakes::{Slow, take_all};
 use git_date::{
-    BriefText, DateFormat, FormatFault, ShortText, ShowError, brief_by_own_clock, short_by_format,
-    show_by_format, text_by_format,
+    BriefText, DateFormat, FormatFault, ShortText, ShowError, show_by_format, text_by_format,
+    text_by_format_brief, text_by_format_short,
 };
 use gix_date::device::Device;
 use gix_date::{Time, Zoned};
@@ -68,27 +68,39 @@ fn a_format_may_be_used_many_times(rt: HostRuntime) {
     let now = TIME.to_zoned().expect(&rt, "a moment");
     let format = DateFormat::new("%F %R").expect(&rt, "a format");
     let copied = format;
-    assert!(rt; format.as_str() == "%F %R");
-    assert!(rt; debugs(rt.alloc(), &copied, "DateFormat { text: \"%F %R\" }"));
+    check(&rt, format.as_str() == "%F %R");
+    check(
+        &rt,
+        debugs(rt.alloc(), &copied, "DateFormat { text: \"%F %R\" }"),
+    );
     let text = text_by_format(rt.alloc(), TIME, format, false, now);
-    assert!(rt; reads(text, "2009-08-30 21:20"));
+    check(&rt, reads(text, "2009-08-30 21:20"));
     let text = text_by_format(rt.alloc(), Time::new(0, 0), copied, false, now);
-    assert!(rt; reads(text, "1970-01-01 00:00"));
+    check(&rt, reads(text, "1970-01-01 00:00"));
 }
 
 #[test]
 fn a_format_shows_short_texts_without_memory(rt: HostRuntime) {
     let now = TIME.to_zoned().expect(&rt, "a moment");
     let mut short = ShortText::new();
-    assert!(rt; short_by_format(TIME, LONG, false, now.time_zone(), &mut short));
-    assert!(rt; short.as_str().as_bytes() == LONG_TEXT);
-    assert!(rt; short_by_format(Time::new(0, 0), "%F %R", true, now.time_zone(), &mut short));
-    assert!(rt; short.as_str() == "1970-01-01 02:00");
+    check(
+        &rt,
+        text_by_format_short(TIME, LONG, false, now.time_zone(), &mut short),
+    );
+    check(&rt, short.as_str().as_bytes() == LONG_TEXT);
+    check(
+        &rt,
+        text_by_format_short(Time::new(0, 0), "%F %R", true, now.time_zone(), &mut short),
+    );
+    check(&rt, short.as_str() == "1970-01-01 02:00");
     let mut brief = BriefText::new();
-    assert!(rt; brief_by_own_clock(TIME, LONG, &mut brief));
-    assert!(rt; brief.as_str().as_bytes() == LONG_TEXT);
-    assert!(rt; brief_by_own_clock(TIME, "%Y-%m-%d %H:%M:%S %z", &mut brief));
-    assert!(rt; brief.as_str() == "2009-08-30 21:20:00 +0200");
+    check(&rt, text_by_format_brief(TIME, LONG, &mut brief));
+    check(&rt, brief.as_str().as_bytes() == LONG_TEXT);
+    check(
+        &rt,
+        text_by_format_brief(TIME, "%Y-%m-%d %H:%M:%S %z", &mut brief),
+    );
+    check(&rt, brief.as_str() == "2009-08-30 21:20:00 +0200");
 }
 
 #[test]
@@ -104,11 +116,17 @@ fn a_text_is_not_short_with_a_fault_or_without_room(rt: HostRuntime) {
         (1_251_660_000, 30, "%F"),
     ] {
         let time = Time::new(seconds, offset);
-        assert!(rt; !short_by_format(time, format, false, zone, &mut short));
-        assert!(rt; !brief_by_own_clock(time, format, &mut brief));
+        check(
+            &rt,
+            !text_by_format_short(time, format, false, zone, &mut short),
+        );
+        check(&rt, !text_by_format_brief(time, format, &mut brief));
     }
-    assert!(rt; short_by_format(TIME, "%c%c%c%c%c%c", false, zone, &mut short));
-    assert!(rt; !brief_by_own_clock(TIME, "%c%c%c%c%c%c", &mut brief));
+    check(
+        &rt,
+        text_by_format_short(TIME, "%c%c%c%c%c%c", false, zone, &mut short),
+    );
+    check(&rt, !text_by_format_brief(TIME, "%c%c%c%c%c%c", &mut brief));
 }
 
 /// How showing a time ends over a writer, and what became of the writer.
@@ -130,10 +148,10 @@ fn a_clock_that_is_not_shown_writes_nothing(rt: HostRuntime) {
     for seconds in [-1, 4_102_444_800] {
         let time = Time::new(seconds, 0);
         let (answer, bytes) = shown_to(time, format, now, Vec::new(rt.alloc()));
-        assert!(rt; answer == Err(ShowError::Range));
-        assert!(rt; bytes.is_empty());
+        check(&rt, answer == Err(ShowError::Range));
+        check(&rt, bytes.is_empty());
         let text = text_by_format(rt.alloc(), time, format, false, now);
-        assert!(rt; text.err() == Some(ShowError::Range));
+        check(&rt, text.err() == Some(ShowError::Range));
     }
 }
 
@@ -150,8 +168,8 @@ fn a_shown_date_fails_at_each_of_its_writes(rt: HostRuntime) {
             };
             let writer = Slow::new(rt.alloc(), a_call, room, ErrorKind::StorageFull);
             let (answer, writer) = shown_to(TIME, format, now, writer);
-            assert!(rt; answer == due, "{a_call}, {room}");
-            assert!(rt; writer.took(&LONG_TEXT[..room]), "{a_call}, {room}");
+            check_at(&rt, answer == due, &(a_call, room));
+            check_at(&rt, writer.took(&LONG_TEXT[..room]), &(a_call, room));
         }
     }
 }
@@ -166,8 +184,12 @@ fn a_shown_date_that_is_refused_memory_is_refused(rt: HostRuntime) {
     let range = text_by_format(rt.alloc(), Time::new(-1, 0), format, false, now).err();
     let is_empty = reads(text_by_format(rt.alloc(), TIME, none, false, now), "");
     drop(blocks);
-    assert!(rt; refused == Some(ShowError::Memory), "no-memory");
-    assert!(rt; range == Some(ShowError::Range) && is_empty, "no-memory");
+    check_at(&rt, refused == Some(ShowError::Memory), &"no-memory");
+    check_at(
+        &rt,
+        range == Some(ShowError::Range) && is_empty,
+        &"no-memory",
+    );
 }
 
 /// How the long text is made where no memory is left but a piece of so many bytes: whether it is refused, and whether it is right.
@@ -200,5 +222,9 @@ fn a_shown_date_that_is_refused_a_growth_is_refused(rt: HostRuntime) {
         some_refused = some_refused || refused;
         some_shown = some_shown || shown;
     }
-    assert!(rt; all_right && some_refused && some_shown, "little-memory");
+    check_at(
+        &rt,
+        all_right && some_refused && some_shown,
+        &"little-memory",
+    );
 }

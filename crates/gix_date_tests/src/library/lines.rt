@@ -1,4 +1,5 @@
 //! The lines of bytes, and those at their front that have the usual form.
+use crate::fakes::answers::check;
 use streams::usual::{MAX_HEADER, canonical_line, unknown_line};
 use streams::{first_line, split_line};
 
@@ -9,8 +10,9 @@ fn a_line_ends_at_its_first_newline(rt: HostRuntime) {
         bytes[place] = b'\n';
         bytes[79] = b'\n';
         for cut in [split_line(&bytes), first_line(&bytes)] {
-            assert!(rt;
-                matches!(cut, Some((line, after)) if line.len() == place && place + after.len() == 79)
+            check(
+                &rt,
+                matches!(cut, Some((line, after)) if line.len() == place && place + after.len() == 79),
             );
         }
     }
@@ -20,12 +22,13 @@ fn a_line_ends_at_its_first_newline(rt: HostRuntime) {
 fn the_last_line_may_lack_its_newline(rt: HostRuntime) {
     for length in 1..=80 {
         let bytes = &[b'x'; 80][..length];
-        assert!(rt; split_line(bytes).is_none());
-        assert!(rt;
-            matches!(first_line(bytes), Some((line, after)) if line.len() == length && after.is_empty())
+        check(&rt, split_line(bytes).is_none());
+        check(
+            &rt,
+            matches!(first_line(bytes), Some((line, after)) if line.len() == length && after.is_empty()),
         );
     }
-    assert!(rt; split_line(b"").is_none() && first_line(b"").is_none());
+    check(&rt, split_line(b"").is_none() && first_line(b"").is_none());
 }
 
 // Git writes headers so. Only some of them are promised: of 1 to 16 digits, the first no zero, where 16 bytes are left.
@@ -39,11 +42,14 @@ fn usual_headers_are_found(rt: HostRuntime) {
         (b"1234567890123456 +9959\n\n", b"\n"),
     ];
     for &(bytes, rest) in &USUAL {
-        assert!(rt; canonical_line(bytes) == Some(rest));
-        assert!(rt; unknown_line(bytes).is_none());
+        check(&rt, canonical_line(bytes) == Some(rest));
+        check(&rt, unknown_line(bytes).is_none());
     }
     let longest = b"1234567890123456 +9959\n".as_slice();
-    assert!(rt; matches!(split_line(longest), Some((line, _)) if line.len() == MAX_HEADER));
+    check(
+        &rt,
+        matches!(split_line(longest), Some((line, _)) if line.len() == MAX_HEADER),
+    );
 }
 
 #[test]
@@ -61,8 +67,8 @@ fn other_lines_are_not_found(rt: HostRuntime) {
         b"yesterday +0800\n",
     ];
     for bytes in &OTHERS {
-        assert!(rt; canonical_line(bytes).is_none());
-        assert!(rt; unknown_line(bytes).is_none());
+        check(&rt, canonical_line(bytes).is_none());
+        check(&rt, unknown_line(bytes).is_none());
     }
 }
 
@@ -74,7 +80,7 @@ fn headers_of_the_unknown_offset_are_found(rt: HostRuntime) {
         (b"1234567890123456 -0000\nx\n", "1234567890123456", b"x\n"),
     ];
     for &(bytes, text, rest) in &UNKNOWN {
-        assert!(rt; unknown_line(bytes) == Some((text, rest)));
-        assert!(rt; canonical_line(bytes).is_none());
+        check(&rt, unknown_line(bytes) == Some((text, rest)));
+        check(&rt, canonical_line(bytes).is_none());
     }
 }

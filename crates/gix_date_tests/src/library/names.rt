@@ -1,6 +1,6 @@
 //! Public names, each where it stands, and the traits that callers count on.
-use crate::fakes::answers::{debug_has, debugs, shows};
-use gix_date::names::{begins, day_name, is_name, weekday_told};
+use crate::fakes::answers::{check, check_at, debug_has, debugs, shows};
+use gix_date::names::{begins, day_name, is_name, weekday_of_word};
 use gix_date::parsing::TimeBuf;
 use gix_date::time::{CustomFormat, Format, format};
 use gix_date::{
@@ -39,13 +39,13 @@ pub(crate) fn comes_back(alloc: Global, text: &str, now: Option<Zoned<'_>>) -> b
 
 #[test]
 fn names_stand_at_the_root(rt: HostRuntime) {
-    assert!(rt; parts(Time::new(5, -60)) == (5, -60));
-    assert!(rt; longest() == 26);
-    assert!(rt; TimeBuf::default().as_str() == "");
+    check(&rt, parts(Time::new(5, -60)) == (5, -60));
+    check(&rt, longest() == 26);
+    check(&rt, TimeBuf::default().as_str() == "");
     let moment = Time::new(5, -60).to_zoned().expect(&rt, "a moment");
-    assert!(rt; comes_back(rt.alloc(), "1:2", Some(moment)));
+    check(&rt, comes_back(rt.alloc(), "1:2", Some(moment)));
     let refusal = gix_date::parsing::parse_no_alloc("1:2", Some(moment), RawOffsets::Quarter);
-    assert!(rt; refusal == Err(ParseError::UnknownFormat));
+    check(&rt, refusal == Err(ParseError::UnknownFormat));
 }
 
 #[test]
@@ -60,7 +60,7 @@ fn words_tell_months(rt: HostRuntime) {
         (b"", None),
     ];
     for &(word, month) in &MONTHS {
-        assert!(rt; short_month(word) == month, "{word:?}");
+        check_at(&rt, short_month(word) == month, &word);
     }
 }
 
@@ -73,11 +73,14 @@ fn words_tell_days(rt: HostRuntime) {
         (b"frid!", None),
     ];
     for &(word, day) in &DAYS {
-        assert!(rt; weekday_told(word) == day, "{word:?}");
+        check_at(&rt, weekday_of_word(word) == day, &word);
     }
-    assert!(rt; (day_name(0), day_name(6)) == ("Mon", "Sun"));
-    assert!(rt; is_name(b"NOON", b"noon") && !is_name(b"noo", b"noon"));
-    assert!(rt; begins(b"noo", b"NOON") && begins(b"", b"") && !begins(b"noons", b"noon"));
+    check(&rt, (day_name(0), day_name(6)) == ("Mon", "Sun"));
+    check(&rt, is_name(b"NOON", b"noon") && !is_name(b"noo", b"noon"));
+    check(
+        &rt,
+        begins(b"noo", b"NOON") && begins(b"", b"") && !begins(b"noons", b"noon"),
+    );
 }
 
 /// Whether two values are the same, by a full equality.
@@ -87,18 +90,24 @@ pub(crate) fn same<T: Eq>(one: &T, other: &T) -> bool {
 
 #[test]
 fn types_have_the_traits_that_callers_count_on(rt: HostRuntime) {
-    assert!(rt; same(&gix_date::time::Time::new(5, -60), &Time::new(5, -60)));
-    assert!(rt; same(&Mode::Parse, &Mode::Parse));
-    assert!(rt; same(&Mode::Sign, &Mode::Sign) && !same(&Mode::Sign, &Mode::Parse));
-    assert!(rt; !same(&RawOffsets::Quarter, &RawOffsets::WholeMinutes));
-    assert!(rt; same(&ParseError::Range, &ParseError::Range));
-    assert!(rt; !same(&ParseError::Range, &ParseError::MissingNow));
+    check(
+        &rt,
+        same(&gix_date::time::Time::new(5, -60), &Time::new(5, -60)),
+    );
+    check(&rt, same(&Mode::Parse, &Mode::Parse));
+    check(
+        &rt,
+        same(&Mode::Sign, &Mode::Sign) && !same(&Mode::Sign, &Mode::Parse),
+    );
+    check(&rt, !same(&RawOffsets::Quarter, &RawOffsets::WholeMinutes));
+    check(&rt, same(&ParseError::Range, &ParseError::Range));
+    check(&rt, !same(&ParseError::Range, &ParseError::MissingNow));
     let time = gix_date::time::Time::new(5, -60);
     let mut buf = TimeBuf::default();
-    assert!(rt; time.to_str(&mut buf).is_ok());
+    check(&rt, time.to_str(&mut buf).is_ok());
     let lent: &TimeBuf = &buf;
     let copied = *lent;
-    assert!(rt; copied.as_str() == "5 -0001");
+    check(&rt, copied.as_str() == "5 -0001");
 }
 
 /// A format of our own, known without running.
@@ -118,25 +127,26 @@ fn formats_have_names(rt: HostRuntime) {
         format::DEFAULT,
     ];
     for custom in &NAMED {
-        assert!(rt; debug_has(rt.alloc(), custom, "%Y"), "{custom:?}");
+        check_at(&rt, debug_has(rt.alloc(), custom, "%Y"), &custom);
     }
     for other in [format::UNIX, format::RAW, Format::Custom(of_a_log())] {
-        assert!(rt; debug_has(rt.alloc(), &other, ""));
+        check(&rt, debug_has(rt.alloc(), &other, ""));
     }
 }
 
 #[test]
 fn careful_options_and_refusals_are_as_told(rt: HostRuntime) {
     let options = CarefulOptions::default();
-    assert!(rt; options.raw == RawOffsets::Quarter);
-    assert!(rt; options.without_offset == WithoutOffset::Utc);
-    assert!(rt; options.texts == Texts::Careful);
-    assert!(rt;
+    check(&rt, options.raw == RawOffsets::Quarter);
+    check(&rt, options.without_offset == WithoutOffset::Utc);
+    check(&rt, options.texts == Texts::Careful);
+    check(
+        &rt,
         debugs(
             rt.alloc(),
             &options,
-            "CarefulOptions { raw: Quarter, without_offset: Utc, texts: Careful }"
-        )
+            "CarefulOptions { raw: Quarter, without_offset: Utc, texts: Careful }",
+        ),
     );
     for &(text, refusal) in &[
         ("30 min ago", CarefulError::Unclear(3)),
@@ -144,7 +154,7 @@ fn careful_options_and_refusals_are_as_told(rt: HostRuntime) {
         ("1704450600000", CarefulError::AfterYear9999),
     ] {
         let answer = parse_carefully(text, None, CarefulOptions::default());
-        assert!(rt; answer == Err(refusal));
+        check(&rt, answer == Err(refusal));
     }
 }
 
@@ -161,14 +171,15 @@ fn each_careful_refusal_says_what_is_wrong(rt: HostRuntime) {
          write them as \"2024-01-05 10:30:00\"; `@` before the number reads it as seconds",
         ),
     ] {
-        assert!(rt; shows(rt.alloc(), &refusal, text));
+        check(&rt, shows(rt.alloc(), &refusal, text));
     }
     let text = format!(in rt.alloc(); "{}", ParseError::MissingNow).expect(&rt, "memory");
-    assert!(rt;
+    check(
+        &rt,
         shows(
             rt.alloc(),
             &CarefulError::Refused(ParseError::MissingNow),
-            text.as_str()
-        )
+            text.as_str(),
+        ),
     );
 }

@@ -1,11 +1,12 @@
 //! The parts of identity lines: what Git leaves out of them, the numbers in them, and where they stand.
+use crate::fakes::answers::check;
 use gix_signature::{IdentPlaces, is_kept, number, trimmed};
 
 // What `git var GIT_AUTHOR_IDENT` of Git 2.39.5 shows of the name `A?B`, for each byte but NUL.
 #[test]
 fn three_bytes_are_left_out_between_the_ends(rt: HostRuntime) {
     for byte in 1..=255_u8 {
-        assert!(rt; is_kept(byte) == !b"\n<>".contains(&byte));
+        check(&rt, is_kept(byte) == !b"\n<>".contains(&byte));
     }
 }
 
@@ -19,7 +20,7 @@ fn crud_is_cut_off_both_ends(rt: HostRuntime) {
         } else {
             part.as_slice()
         };
-        assert!(rt; trimmed(part.as_slice()) == due);
+        check(&rt, trimmed(part.as_slice()) == due);
     }
 }
 
@@ -37,7 +38,7 @@ fn crud_between_the_ends_stays(rt: HostRuntime) {
         (b"", b""),
     ];
     for &(part, due) in &PARTS {
-        assert!(rt; trimmed(part) == due);
+        check(&rt, trimmed(part) == due);
     }
 }
 
@@ -56,31 +57,35 @@ fn numbers_have_64_bits(rt: HostRuntime) {
         (b"", Some(0)),
     ];
     for &(digits, value) in &NUMBERS {
-        assert!(rt; number(digits) == value);
+        check(&rt, number(digits) == value);
     }
 }
 
 // The places are Python's, by `index` of the part in the line.
 #[test]
 fn the_parts_of_a_line_stand_at_its_places(rt: HostRuntime) {
-    for (text, mail, seconds, offset) in [
+    for (text, email, rest, seconds, offset, end) in [
         (
             b"A U Thor <author@example.com> 1660874655 +0800".as_slice(),
             10,
+            29,
             30,
             41,
+            46,
         ),
-        (b"A <a> 5 +0000\nB <b> 66 +0100", 3, 6, 8),
-        (b"A <a> 5 +0000\0B <b> 66 +0100", 3, 6, 8),
-        (b"J\xf6rg \t<j@e>  5  +0100", 7, 13, 16),
-        (b"A <a> b> 5 +0000", 3, 9, 11),
-        (b"<> 5 -0130", 1, 3, 5),
+        (b"A <a> 5 +0000\nB <b> 66 +0100", 3, 5, 6, 8, 13),
+        (b"A <a> 5 +0000\0B <b> 66 +0100", 3, 5, 6, 8, 13),
+        (b"J\xf6rg \t<j@e>  5  +0100", 7, 11, 13, 16, 21),
+        (b"A <a> b> 5 +0000", 3, 5, 9, 11, 16),
+        (b"<> 5 -0130", 1, 2, 3, 5, 10),
     ] {
         let due = IdentPlaces {
-            mail,
+            email,
+            rest,
             seconds,
             offset,
+            end,
         };
-        assert!(rt; IdentPlaces::of(text) == due);
+        check(&rt, IdentPlaces::of(text) == due);
     }
 }

@@ -1,5 +1,5 @@
 //! Times printed by patterns of one's own, and where memory is refused.
-use crate::fakes::answers::{Fault, fails, reads};
+use crate::fakes::answers::{Fault, check, check_at, fails, reads};
 use crate::fakes::take_all;
 use gix_date::Time;
 use gix_date::time::format::{ISO8601, RAW, UNIX};
@@ -12,13 +12,16 @@ const ISO: Format = Format::Custom(ISO8601);
 fn a_format_may_have_any_pattern(rt: HostRuntime) {
     let time = Time::new(0, 0);
     let day = Format::Custom(CustomFormat::new("%A %-d %B, %Z, %Q"));
-    assert!(rt; reads(time.format(rt.alloc(), day), "Thursday 1 January, UTC, UTC"));
+    check(
+        &rt,
+        reads(time.format(rt.alloc(), day), "Thursday 1 January, UTC, UTC"),
+    );
     for pattern in ["%!", "%", "%Y-%"] {
         let format = Format::Custom(CustomFormat::new(pattern));
         let refused = time.format(rt.alloc(), format);
-        assert!(rt; fails(refused, Fault::Pattern), "{pattern}");
+        check_at(&rt, fails(refused, Fault::Pattern), &pattern);
         let seconds = time.format_or_unix(rt.alloc(), format);
-        assert!(rt; reads(seconds, "0"), "{pattern}");
+        check_at(&rt, reads(seconds, "0"), &pattern);
     }
 }
 
@@ -26,12 +29,13 @@ fn a_format_may_have_any_pattern(rt: HostRuntime) {
 #[test]
 fn named_formats_have_texts_by_value(rt: HostRuntime) {
     let time = Time::new(1_660_874_655, 28_800);
-    assert!(rt;
-        matches!(time.format_to_buf(ISO), Some(buf) if buf.as_str() == "2022-08-19 10:04:15 +0800")
+    check(
+        &rt,
+        matches!(time.format_to_buf(ISO), Some(buf) if buf.as_str() == "2022-08-19 10:04:15 +0800"),
     );
-    assert!(rt; time.format_by_pattern_to_buf("%Y").is_none(), "year");
+    check_at(&rt, time.format_by_pattern_to_buf("%Y").is_none(), &"year");
     let year = Format::Custom(CustomFormat::new("%Y"));
-    assert!(rt; time.format_to_buf(year).is_none(), "{time:?}");
+    check_at(&rt, time.format_to_buf(year).is_none(), &time);
     for &(seconds, offset, format) in &[
         (0, 360_000, RAW),
         (0, 93_600, ISO),
@@ -40,7 +44,7 @@ fn named_formats_have_texts_by_value(rt: HostRuntime) {
         (0, 61, ISO),
     ] {
         let time = Time::new(seconds, offset);
-        assert!(rt; time.format_to_buf(format).is_none(), "{time:?}");
+        check_at(&rt, time.format_to_buf(format).is_none(), &time);
     }
 }
 
@@ -58,8 +62,8 @@ fn a_text_that_is_refused_memory_is_refused(rt: HostRuntime) {
     let wide = Time::new(0, 362_340).format(rt.alloc(), RAW);
     let wide = fails(wide, Fault::OffsetTooWide);
     drop(blocks);
-    assert!(rt; all_right, "no-memory");
-    assert!(rt; beyond && wide, "no-memory");
+    check_at(&rt, all_right, &"no-memory");
+    check_at(&rt, beyond && wide, &"no-memory");
 }
 
 /// A piece of memory of each size.
@@ -94,9 +98,10 @@ fn each_growth_of_a_text_may_be_refused(rt: HostRuntime) {
         (1, true, true, "little-memory"),
         (0, false, true, "enough-memory"),
     ] {
-        assert!(rt;
+        check_at(
+            &rt,
             printed_beside(rt.alloc(), kept).ok() == Some((refused, fits)),
-            "{row}"
+            &row,
         );
     }
 }

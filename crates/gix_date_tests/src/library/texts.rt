@@ -1,4 +1,5 @@
 //! Bytes that are read as text.
+use crate::fakes::answers::check_at;
 use gix_date::bytes::text_of;
 
 /// The text of the bytes, as bytes.
@@ -30,7 +31,7 @@ fn characters_of_several_bytes_are_text(rt: HostRuntime) {
         (b"\xf4\x8f\xbf\xbf", "\u{10ffff}"),
     ];
     for &(bytes, text) in &TEXTS {
-        assert!(rt; text_of(bytes) == Some(text), "{text}");
+        check_at(&rt, text_of(bytes) == Some(text), &text);
     }
 }
 
@@ -55,9 +56,9 @@ fn other_bytes_are_no_text(rt: HostRuntime) {
         b"\xff",
     ];
     for &wrong in &WRONG {
-        assert!(rt; text_of(wrong).is_none(), "{wrong:?}");
+        check_at(&rt, text_of(wrong).is_none(), &wrong);
         let mut bytes = *b"1660874655 +0800 1660874655 +0800 1660874655 +0800";
         bytes[20..20 + wrong.len()].copy_from_slice(wrong);
-        assert!(rt; text_of(&bytes).is_none(), "{wrong:?} within");
+        check_at(&rt, text_of(&bytes).is_none(), &wrong);
     }
 }

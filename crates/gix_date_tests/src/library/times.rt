@@ -1,5 +1,5 @@
 //! Times as values.
-use crate::fakes::answers::reads;
+use crate::fakes::answers::{check, check_at, reads};
 use gix_date::Time;
 use serde::{DeserializeOwned, Serialize};
 use std::alloc::Global;
@@ -13,23 +13,20 @@ fn times_have_an_order(rt: HostRuntime) {
         for (k, (others, beside)) in rising.iter().enumerate() {
             let time = Time::new(*seconds, *offset);
             let other = Time::new(*others, *beside);
-            assert!(rt;
-                time.cmp(&other) == i.cmp(&k),
-                "rising-order: {time:?} {other:?}"
-            );
-            assert!(rt;
-                (time == other) == (i == k),
-                "rising-order: {time:?} {other:?}"
-            );
+            check_at(&rt, time.cmp(&other) == i.cmp(&k), &(time, other));
+            check_at(&rt, (time == other) == (i == k), &(time, other));
         }
     }
-    assert!(rt; Time::MIN.cmp(&Time::MAX) == Ordering::Less);
+    check(&rt, Time::MIN.cmp(&Time::MAX) == Ordering::Less);
 }
 
 #[test]
 fn equal_times_hash_alike(rt: HostRuntime) {
     let hashes: BuildHasherDefault<FoldHasher> = BuildHasherDefault::default();
-    assert!(rt; hashes.hash_one(Time::new(5, 60)) == hashes.hash_one(Time::new(5, 60)));
+    check(
+        &rt,
+        hashes.hash_one(Time::new(5, 60)) == hashes.hash_one(Time::new(5, 60)),
+    );
 }
 
 #[test]
@@ -41,10 +38,10 @@ fn a_time_is_set_where_it_is_not_zero(rt: HostRuntime) {
         ("both-set", -1, -1, true),
     ];
     for &(row, seconds, offset, set) in &ROWS {
-        assert!(rt; Time::new(seconds, offset).is_set() == set, "{row}");
+        check_at(&rt, Time::new(seconds, offset).is_set() == set, &row);
     }
-    assert!(rt; Time::default() == Time::new(0, 0));
-    assert!(rt; !Time::default().is_set());
+    check(&rt, Time::default() == Time::new(0, 0));
+    check(&rt, !Time::default().is_set());
 }
 
 #[test]
@@ -63,9 +60,10 @@ fn a_time_says_whether_its_texts_are_read_back(rt: HostRuntime) {
         ("offset-of-odd-seconds", 0, 30, false),
     ];
     for &(row, seconds, offset, round_trips) in &ROWS {
-        assert!(rt;
+        check_at(
+            &rt,
             Time::new(seconds, offset).round_trips() == round_trips,
-            "{row}"
+            &row,
         );
     }
 }
@@ -88,8 +86,11 @@ fn a_time_is_carried_by_json(rt: HostRuntime) {
         Time::default(),
         Time::new(1_660_874_655, 28_800),
     ] {
-        assert!(rt; carried(rt.alloc(), &time).ok() == Some(time));
+        check(&rt, carried(rt.alloc(), &time).ok() == Some(time));
     }
     let text = serde_json::to_string(rt.alloc(), &Time::new(1_660_874_655, 28_800));
-    assert!(rt; reads(text, "{\"seconds\":1660874655,\"offset\":28800}"));
+    check(
+        &rt,
+        reads(text, "{\"seconds\":1660874655,\"offset\":28800}"),
+    );
 }

@@ -1,5 +1,5 @@
 //! Command lines, and how the program ends over readers and writers that fail.
-use crate::fakes::answers::shows;
+use crate::fakes::answers::{check, check_at, shows};
 use crate::fakes::harness::{executed, words_of};
 use crate::fakes::{KINDS, Slow, Supply};
 use gix_date::Time;
@@ -35,7 +35,7 @@ fn a_command_line_is_a_mode_and_perhaps_a_moment(rt: HostRuntime) {
         (&[], None),
     ];
     for &(line, wanted) in &ROWS {
-        assert!(rt; asked(rt.alloc(), line) == Some(wanted), "{line:?}");
+        check_at(&rt, asked(rt.alloc(), line) == Some(wanted), &line);
     }
 }
 
@@ -76,11 +76,14 @@ fn ended_with(
 fn the_program_ends_with_status_1_on_a_fault(rt: HostRuntime) {
     let reader = Supply::once(b"0 +0000\n", 3, Some(ErrorKind::ConnectionReset));
     let (status, _source, sink, said) = ended(rt.alloc(), &["check"], reader).expect(&rt, "memory");
-    assert!(rt; status == Status::Failure);
-    assert!(rt; status.code() == 1);
-    assert!(rt; sink.took(b"canonical\n"));
-    assert!(rt; said.took(b"gix_date_tool: reading failed: connection reset\n"));
-    assert!(rt; (said.calls, said.flushes) == (1, 0));
+    check(&rt, status == Status::Failure);
+    check(&rt, status.code() == 1);
+    check(&rt, sink.took(b"canonical\n"));
+    check(
+        &rt,
+        said.took(b"gix_date_tool: reading failed: connection reset\n"),
+    );
+    check(&rt, (said.calls, said.flushes) == (1, 0));
 }
 
 /// How the program ends with its usage line on this writer, what became of it, and what was said.
@@ -95,12 +98,15 @@ fn usage_on(alloc: Global, writer: Slow) -> (Status, Slow, Slow) {
 fn an_unwritten_usage_line_is_said(rt: HostRuntime) {
     let cut = Slow::new(rt.alloc(), 9, 5, ErrorKind::StorageFull);
     let (status, cut, said) = usage_on(rt.alloc(), cut);
-    assert!(rt; status == Status::Failure);
-    assert!(rt; cut.took(b"usage"));
-    assert!(rt; said.took(b"gix_date_tool: writing failed: no storage space\n"));
+    check(&rt, status == Status::Failure);
+    check(&rt, cut.took(b"usage"));
+    check(
+        &rt,
+        said.took(b"gix_date_tool: writing failed: no storage space\n"),
+    );
     let (status, _whole, said) = usage_on(rt.alloc(), Slow::roomy(rt.alloc()));
-    assert!(rt; status == Status::Usage);
-    assert!(rt; said.took(b"gix_date_tool: a word is not UTF-8\n"));
+    check(&rt, status == Status::Usage);
+    check(&rt, said.took(b"gix_date_tool: a word is not UTF-8\n"));
 }
 
 /// What a message adds to the name of a fault.
@@ -119,8 +125,8 @@ fn faults_of_a_reader_are_called_as_the_standard_library_has_them(rt: HostRuntim
         let line = format!(in rt.alloc(); "gix_date_tool: reading failed: {kind}{more}\n").expect(
             &rt, "memory",
         );
-        assert!(rt; ended == Status::Failure, "{kind:?}");
-        assert!(rt; said.took(line.as_bytes()), "{kind:?}");
+        check_at(&rt, ended == Status::Failure, &kind);
+        check_at(&rt, said.took(line.as_bytes()), &kind);
     }
 }
 
@@ -129,9 +135,10 @@ fn faults_of_a_writer_are_called_as_the_standard_library_has_them(rt: HostRuntim
     for kind in KINDS {
         let more = added_to(kind);
         let wanted = format!(in rt.alloc(); "writing failed: {kind}{more}").expect(&rt, "memory");
-        assert!(rt;
+        check_at(
+            &rt,
             shows(rt.alloc(), &ToolError::Write(kind), wanted.as_str()),
-            "{kind:?}"
+            &kind,
         );
     }
 }
@@ -141,8 +148,8 @@ fn messages_that_are_refused_change_no_status(rt: HostRuntime) {
     let line = b"gix_date_tool: reading failed: timed out\n".as_slice();
     for room in 0..line.len() {
         let (ended, said) = ended_with(&rt, ErrorKind::TimedOut, room).expect(&rt, "memory");
-        assert!(rt; ended == Status::Failure, "{room}");
-        assert!(rt; said.took(&line[..room]), "{room}");
+        check_at(&rt, ended == Status::Failure, &room);
+        check_at(&rt, said.took(&line[..room]), &room);
     }
 }
 
@@ -152,7 +159,7 @@ fn a_refused_command_line_reads_nothing(rt: HostRuntime) {
     for &line in &LINES {
         let reader = Supply::once(b"0 +0000\n", 99, None);
         let (status, source, _sink, said) = ended(rt.alloc(), line, reader).expect(&rt, "memory");
-        assert!(rt; status == Status::Usage, "{line:?}");
-        assert!(rt; (source.calls, said.calls) == (0, 1), "{line:?}");
+        check_at(&rt, status == Status::Usage, &line);
+        check_at(&rt, (source.calls, said.calls) == (0, 1), &line);
     }
 }

@@ -1,5 +1,5 @@
 //! Each write and each read failing in its turn, writes of every length, and a line without end.
-use crate::fakes::answers::{Fault, fails};
+use crate::fakes::answers::{Fault, check, check_at, fails};
 use crate::fakes::harness::{ran, written};
 use crate::fakes::{Slow, Supply, count_of};
 use gix_date::Time;
@@ -40,9 +40,9 @@ fn the_longest_text_fails_at_each_of_its_writes(rt: HostRuntime) {
         for taken in 0..26 {
             let writer = Slow::ending(rt.alloc(), 1, taken, end);
             let (answer, writer) = written(Time::MIN, writer);
-            assert!(rt; fails(answer, Fault::Write(due)), "{taken}");
-            assert!(rt; writer.took(&LEAST[..taken]), "{taken}");
-            assert!(rt; writer.calls == taken + 1, "{taken}");
+            check_at(&rt, fails(answer, Fault::Write(due)), &taken);
+            check_at(&rt, writer.took(&LEAST[..taken]), &taken);
+            check_at(&rt, writer.calls == taken + 1, &taken);
         }
     }
 }
@@ -52,9 +52,9 @@ fn writes_of_every_length_take_the_whole_text(rt: HostRuntime) {
     for a_call in 1..=27 {
         let writer = Slow::new(rt.alloc(), a_call, 99, ErrorKind::Other);
         let (answer, writer) = written(Time::MIN, writer);
-        assert!(rt; answer.is_ok(), "{a_call}");
-        assert!(rt; writer.took(LEAST), "{a_call}");
-        assert!(rt; writer.calls == LEAST.len().div_ceil(a_call), "{a_call}");
+        check_at(&rt, answer.is_ok(), &a_call);
+        check_at(&rt, writer.took(LEAST), &a_call);
+        check_at(&rt, writer.calls == LEAST.len().div_ceil(a_call), &a_call);
     }
 }
 
@@ -66,11 +66,12 @@ fn a_run_fails_at_each_of_its_writes(rt: HostRuntime) {
                 let reader = Supply::once(input, 99, None);
                 let writer = Slow::new(rt.alloc(), a_call, room, ErrorKind::StorageFull);
                 let (answer, _source, sink) = ran(rt.alloc(), mode, reader, writer);
-                assert!(rt;
+                check_at(
+                    &rt,
                     matches!(answer, Err(ToolError::Write(ErrorKind::StorageFull))),
-                    "{mode:?}, {room}"
+                    &(mode, room),
                 );
-                assert!(rt; sink.took(&output[..room]), "{mode:?}, {room}");
+                check_at(&rt, sink.took(&output[..room]), &(mode, room));
             }
         }
     }
@@ -83,12 +84,13 @@ fn a_run_ends_at_a_write_of_no_byte(rt: HostRuntime) {
             let reader = Supply::once(input, 99, None);
             let writer = Slow::ending(rt.alloc(), 1, taken, None);
             let (answer, _source, sink) = ran(rt.alloc(), mode, reader, writer);
-            assert!(rt;
+            check_at(
+                &rt,
                 matches!(answer, Err(ToolError::Write(ErrorKind::WriteZero))),
-                "{mode:?}, {taken}"
+                &(mode, taken),
             );
-            assert!(rt; sink.took(&output[..taken]), "{mode:?}, {taken}");
-            assert!(rt; sink.calls == taken + 1, "{mode:?}, {taken}");
+            check_at(&rt, sink.took(&output[..taken]), &(mode, taken));
+            check_at(&rt, sink.calls == taken + 1, &(mode, taken));
         }
     }
 }
@@ -100,8 +102,8 @@ fn writes_of_every_length_take_all_replies(rt: HostRuntime) {
             let reader = Supply::once(input, 99, None);
             let writer = Slow::new(rt.alloc(), a_call, 99, ErrorKind::Other);
             let (answer, _source, sink) = ran(rt.alloc(), mode, reader, writer);
-            assert!(rt; answer.is_ok(), "{mode:?}, {a_call}");
-            assert!(rt; sink.took(output), "{mode:?}, {a_call}");
+            check_at(&rt, answer.is_ok(), &(mode, a_call));
+            check_at(&rt, sink.took(output), &(mode, a_call));
         }
     }
 }
@@ -130,16 +132,21 @@ fn a_run_fails_at_each_of_its_reads(rt: HostRuntime) {
                 let reader = Supply::of(input, a_call, given, Some(kind));
                 let writer = Slow::roomy(rt.alloc());
                 let (answer, source, sink) = ran(rt.alloc(), mode, reader, writer);
-                assert!(rt;
+                check_at(
+                    &rt,
                     matches!(answer, Err(ToolError::Read(fault)) if fault == kind),
-                    "{mode:?}, {given}"
+                    &(mode, given),
                 );
                 let due = newlines(&input[..given]);
-                assert!(rt;
+                check_at(
+                    &rt,
                     are_first_lines(sink.taken.as_slice(), output, due),
-                    "{mode:?}, {given}"
+                    &(mode, given),
                 );
-                assert!(rt; source.calls == given.div_ceil(a_call).saturating_add(1));
+                check(
+                    &rt,
+                    source.calls == given.div_ceil(a_call).saturating_add(1),
+                );
             }
         }
     }
@@ -150,8 +157,8 @@ fn a_line_without_end_ends_a_run_with_no_reply(rt: HostRuntime) {
     for mode in MODES {
         let reader = Supply::of(b"1", 1, 1 << 40, None);
         let (answer, source, sink) = ran(rt.alloc(), mode, reader, Slow::roomy(rt.alloc()));
-        assert!(rt; matches!(answer, Err(ToolError::LineTooLong)), "{mode:?}");
-        assert!(rt; sink.calls == 0, "{mode:?}");
-        assert!(rt; source.calls == 65_537, "{mode:?}");
+        check_at(&rt, matches!(answer, Err(ToolError::LineTooLong)), &mode);
+        check_at(&rt, sink.calls == 0, &mode);
+        check_at(&rt, source.calls == 65_537, &mode);
     }
 }

@@ -1,4 +1,5 @@
 //! `git_date` on machines whose clock cannot be read, and whose files change between two looks.
+use crate::fakes::answers::check;
 use crate::fakes::harness::words_of;
 use crate::fakes::machine::Machine;
 use crate::fakes::{Slow, Supply};
@@ -30,15 +31,15 @@ fn a_clock_is_read_only_where_no_moment_is_given(rt: HostRuntime) {
         ..Machine::at(rt, 0, "UTC0")
     };
     let (ended, out, said) = dated(&machine, &["now"]).expect(&rt, "memory");
-    assert!(rt; ended == Status::Failure);
-    assert!(rt; out.took(b""));
-    assert!(rt; said.took(b"git_date: the clock cannot be read\n"));
+    check(&rt, ended == Status::Failure);
+    check(&rt, out.took(b""));
+    check(&rt, said.took(b"git_date: the clock cannot be read\n"));
     let (ended, out, said) = dated(&machine, &["--now", "@1251660000", "now"]).expect(
         &rt, "memory",
     );
-    assert!(rt; ended == Status::Success);
-    assert!(rt; out.took(b"1251660000 +0000\n"));
-    assert!(rt; said.took(b""));
+    check(&rt, ended == Status::Success);
+    check(&rt, out.took(b"1251660000 +0000\n"));
+    check(&rt, said.took(b""));
 }
 
 #[test]
@@ -50,9 +51,9 @@ fn a_file_is_looked_at_again_once_it_is_open(rt: HostRuntime) {
     let (ended, out, said) = dated(&machine, &["--zone", "/etc/passwd", "now"]).expect(
         &rt, "memory",
     );
-    assert!(rt; ended == Status::Usage);
-    assert!(rt; out.took(b""));
+    check(&rt, ended == Status::Usage);
+    check(&rt, out.took(b""));
     let wanted =
         b"git_date: '/etc/passwd' is no zone: it is a folder, a pipe or a device\n".as_slice();
-    assert!(rt; said.taken.as_slice().starts_with(wanted));
+    check(&rt, said.taken.as_slice().starts_with(wanted));
 }

@@ -1,5 +1,5 @@
 //! Runs and calls where each request for memory is refused. What the calls of single texts ask for, `tests/memory` counts.
-use crate::fakes::answers::{Fault, fails};
+use crate::fakes::answers::{Fault, check, check_at, fails};
 use crate::fakes::harness::{executed, ran, words_of};
 use crate::fakes::{Hoarder, Small, Supply, take_all};
 use crate::programs::failing::{RUNS, newlines};
@@ -55,7 +55,7 @@ fn a_text_of_any_length_wants_memory_for_its_copy(rt: HostRuntime) {
         all_right = all_right && fails(parse(rt.alloc(), text, None), Fault::Memory);
     }
     drop(blocks);
-    assert!(rt; all_right, "no-memory");
+    check_at(&rt, all_right, &"no-memory");
 }
 
 #[test]
@@ -66,7 +66,7 @@ fn a_growth_refused_ends_a_run(rt: HostRuntime) {
         all_right = all_right && runs_so(rt.alloc(), mode, b"A <a> 0 +0000", b"", None);
     }
     drop(blocks);
-    assert!(rt; all_right, "no-memory");
+    check_at(&rt, all_right, &"no-memory");
 }
 
 #[test]
@@ -80,7 +80,7 @@ fn a_later_growth_refused_ends_a_run_after_its_replies(rt: HostRuntime) {
     ];
     for &(mode, line, output) in &rows {
         let ended = hoarded(rt.alloc(), mode, &[line, longer], output);
-        assert!(rt; matches!(ended, (Err(ToolError::Memory), true)), "{mode:?}");
+        check_at(&rt, matches!(ended, (Err(ToolError::Memory), true)), &mode);
     }
 }
 
@@ -95,7 +95,7 @@ fn a_run_over_short_lines_takes_little_memory(rt: HostRuntime) {
         all_right = all_right && runs_so(rt.alloc(), mode, input, output, lines);
     }
     drop(blocks);
-    assert!(rt; all_right, "little-memory");
+    check_at(&rt, all_right, &"little-memory");
 }
 
 #[test]
@@ -106,8 +106,8 @@ fn a_moment_is_read_without_memory(rt: HostRuntime) {
     let answer = command(rt.alloc(), words.as_slice()).ok();
     let due = command(rt.alloc(), dated.as_slice()).ok();
     drop(blocks);
-    assert!(rt; answer == Some(None));
-    assert!(rt; due == Some(Some((Mode::Parse, Some(Time::new(0, 0))))));
+    check(&rt, answer == Some(None));
+    check(&rt, due == Some(Some((Mode::Parse, Some(Time::new(0, 0))))));
 }
 
 #[test]
@@ -121,8 +121,8 @@ fn a_wrong_moment_is_told_without_memory(rt: HostRuntime) {
             b"gix_date_tool: NOW is in no known date format, or its offset is above 23:59; expected a date, \
               such as \"2022-08-18 12:45:06 +0800\" or \"1660874655 +0800\"\n",
         );
-    assert!(rt; status == Status::Usage);
-    assert!(rt; told, "no-memory");
+    check(&rt, status == Status::Usage);
+    check_at(&rt, told, &"no-memory");
 }
 
 #[test]
@@ -132,8 +132,8 @@ fn a_run_refused_memory_ends_the_program_with_a_message(rt: HostRuntime) {
     let (status, sink, said) = ended(rt.alloc(), words.as_slice());
     let told = sink.is(b"") && said.is(b"gix_date_tool: out of memory\n");
     drop(blocks);
-    assert!(rt; status == Status::Failure);
-    assert!(rt; told, "no-memory");
+    check(&rt, status == Status::Failure);
+    check_at(&rt, told, &"no-memory");
 }
 
 #[test]
@@ -146,5 +146,5 @@ fn a_run_in_parse_takes_memory_for_the_line_alone(rt: HostRuntime) {
         b"1203039045 -0500\nerror unknown-format\nerror date-conversion\nerror missing-moment\n\
           error unknown-format\nerror unknown-format\nerror unknown-format\n0 +0000\nnot text\n5 +0000\n";
     let ended = hoarded(rt.alloc(), Mode::Parse, &pieces, output);
-    assert!(rt; matches!(ended, (Ok(10), true)), "no-memory");
+    check_at(&rt, matches!(ended, (Ok(10), true)), &"no-memory");
 }

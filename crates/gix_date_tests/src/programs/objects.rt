@@ -1,4 +1,5 @@
 //! Objects and lines judged over readers and writers that fail in mid-stream.
+use crate::fakes::answers::check;
 use crate::fakes::harness::words_of;
 use crate::fakes::{Hoarder, Slow, Small, Supply, take_all};
 use crate::programs::failing::are_first_lines;
@@ -82,11 +83,18 @@ fn judging_fails_at_each_of_its_reads(rt: HostRuntime) {
             ] {
                 let reader = Supply::of(run.input, a_call, given, Some(kind));
                 let (answer, source, sink) = run.over(rt.alloc(), reader, Slow::roomy(rt.alloc()));
-                assert!(rt;
-                    matches!(answer, Err(Fault::Tool(ToolError::Read(fault))) if fault == kind)
+                check(
+                    &rt,
+                    matches!(answer, Err(Fault::Tool(ToolError::Read(fault))) if fault == kind),
                 );
-                assert!(rt; are_first_lines(sink.taken.as_slice(), run.output, run.told(given)));
-                assert!(rt; source.calls == given.div_ceil(a_call).saturating_add(1));
+                check(
+                    &rt,
+                    are_first_lines(sink.taken.as_slice(), run.output, run.told(given)),
+                );
+                check(
+                    &rt,
+                    source.calls == given.div_ceil(a_call).saturating_add(1),
+                );
             }
         }
     }
@@ -103,12 +111,13 @@ fn judging_fails_at_each_of_its_writes(rt: HostRuntime) {
                 let reader = Supply::once(run.input, a_read, None);
                 let writer = Slow::ending(rt.alloc(), 1, taken, end);
                 let (answer, source, sink) = run.over(rt.alloc(), reader, writer);
-                assert!(rt;
-                    matches!(answer, Err(Fault::Tool(ToolError::Write(kind))) if kind == due)
+                check(
+                    &rt,
+                    matches!(answer, Err(Fault::Tool(ToolError::Write(kind))) if kind == due),
                 );
-                assert!(rt; sink.took(&run.output[..taken]));
-                assert!(rt; sink.calls == taken + 1);
-                assert!(rt; a_read > 1 || run.ends.contains(&source.calls));
+                check(&rt, sink.took(&run.output[..taken]));
+                check(&rt, sink.calls == taken + 1);
+                check(&rt, a_read > 1 || run.ends.contains(&source.calls));
             }
         }
     }
@@ -120,14 +129,18 @@ fn an_input_may_end_only_after_an_object(rt: HostRuntime) {
         let reader = Supply::of(OBJECTS.input, 7, given, None);
         let (answer, _source, sink) = OBJECTS.over(rt.alloc(), reader, Slow::roomy(rt.alloc()));
         let is_whole = given == 0 || OBJECT_ENDS.contains(&given);
-        assert!(rt;
+        check(
+            &rt,
             match answer {
                 Ok(clean) => is_whole && clean == (given == 0),
                 Err(Fault::Stream(StreamFault::EarlyEnd)) => !is_whole,
                 Err(_) => false,
-            }
+            },
         );
-        assert!(rt; are_first_lines(sink.taken.as_slice(), OBJECTS.output, OBJECTS.told(given)));
+        check(
+            &rt,
+            are_first_lines(sink.taken.as_slice(), OBJECTS.output, OBJECTS.told(given)),
+        );
     }
 }
 
@@ -137,8 +150,8 @@ fn judging_that_is_refused_memory_ends(rt: HostRuntime) {
     let reader = Supply::once(LINES.input, 99, None);
     let (at_once, _source, none) = LINES.over(rt.alloc(), reader, Small::new());
     drop(blocks);
-    assert!(rt; matches!(at_once, Err(Fault::Tool(ToolError::Memory))));
-    assert!(rt; none.is(b""));
+    check(&rt, matches!(at_once, Err(Fault::Tool(ToolError::Memory))));
+    check(&rt, none.is(b""));
 }
 
 #[test]
@@ -152,8 +165,8 @@ fn judging_that_is_refused_memory_later_ends_after_its_replies(rt: HostRuntime) 
         Small::new(),
     );
     drop(source);
-    assert!(rt; matches!(later, Err(Fault::Tool(ToolError::Memory))));
-    assert!(rt; sink.is(b"badDate: A <a> x\n"));
+    check(&rt, matches!(later, Err(Fault::Tool(ToolError::Memory))));
+    check(&rt, sink.is(b"badDate: A <a> x\n"));
 }
 
 /// How the program ends by one word over a reader and a writer, and what it says where there is so much room.
@@ -186,8 +199,8 @@ fn the_judging_program_says_that_its_reader_failed(rt: HostRuntime) {
         let (status, messages) = ended(rt.alloc(), reader, Slow::roomy(rt.alloc()), room).expect(
             &rt, "memory",
         );
-        assert!(rt; status == Status::Failure);
-        assert!(rt; messages.took(&said[..room]));
+        check(&rt, status == Status::Failure);
+        check(&rt, messages.took(&said[..room]));
     }
 }
 
@@ -208,8 +221,8 @@ fn the_judging_program_says_that_its_writer_failed(rt: HostRuntime) {
             Slow::new(rt.alloc(), 1, 3, kind),
             99,
         ).expect(&rt, "memory");
-        assert!(rt; status == Status::Failure);
-        assert!(rt; messages.took(said));
+        check(&rt, status == Status::Failure);
+        check(&rt, messages.took(said));
     }
 }
 
@@ -226,19 +239,22 @@ fn wrong_words_judge_nothing(rt: HostRuntime) {
         &mut sink,
         &mut messages,
     );
-    assert!(rt;
-        (status, source.into_inner().calls, sink.into_inner().calls) == (Status::Usage, 0, 0)
+    check(
+        &rt,
+        (status, source.into_inner().calls, sink.into_inner().calls) == (Status::Usage, 0, 0),
     );
-    assert!(rt;
+    check(
+        &rt,
         messages.into_inner().took(
-            b"git_ident: a word is no option\nusage: git_ident [--all] [--lines]\n"
-        )
+            b"git_ident: a word is no option\nusage: git_ident [--all] [--lines]\n",
+        ),
     );
     let mut messages = Device::new(Slow::roomy(rt.alloc()));
-    assert!(rt; show_usage(&mut messages) == Status::Usage);
-    assert!(rt;
+    check(&rt, show_usage(&mut messages) == Status::Usage);
+    check(
+        &rt,
         messages.into_inner().took(
-            b"git_ident: a word is not UTF-8\nusage: git_ident [--all] [--lines]\n"
-        )
+            b"git_ident: a word is not UTF-8\nusage: git_ident [--all] [--lines]\n",
+        ),
     );
 }

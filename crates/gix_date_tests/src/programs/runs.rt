@@ -1,5 +1,5 @@
 //! Runs over the lines of a stream, as readers give them piece by piece.
-use crate::fakes::answers::{all_show, debugs};
+use crate::fakes::answers::{all_show, check, check_at, debugs};
 use crate::fakes::harness::ran;
 use crate::fakes::{Asking, Replied, Slow, Supply};
 use crate::programs::failing::{RUNS, newlines};
@@ -15,8 +15,8 @@ fn lines_are_answered_alike_by_pieces_of_any_length(rt: HostRuntime) {
         for a_call in [1, 2, 7, 4096] {
             let reader = Supply::once(input, a_call, None);
             let (answer, _source, sink) = ran(rt.alloc(), mode, reader, Slow::roomy(rt.alloc()));
-            assert!(rt; answer.ok() == Some(newlines(output) as u64));
-            assert!(rt; sink.took(output), "{mode:?}, {a_call}");
+            check(&rt, answer.ok() == Some(newlines(output) as u64));
+            check_at(&rt, sink.took(output), &(mode, a_call));
         }
     }
 }
@@ -27,10 +27,11 @@ fn dates_are_read_from_the_moment_that_is_handed_in(rt: HostRuntime) {
     let mut source = Device::new(Supply::once(b"now\n1 day ago\n@-1000\n", 99, None));
     let mut sink = Device::new(Slow::roomy(rt.alloc()));
     let answer = run(rt.alloc(), Mode::Parse, now, &mut source, &mut sink);
-    assert!(rt; matches!(answer, Ok(3)));
-    assert!(rt;
+    check(&rt, matches!(answer, Ok(3)));
+    check(
+        &rt,
         sink.into_inner()
-            .took(b"1698400800 +2500\n1698314400 +2500\n-1000 +0000\n")
+            .took(b"1698400800 +2500\n1698314400 +2500\n-1000 +0000\n"),
     );
 }
 
@@ -42,12 +43,13 @@ fn replies_are_written_before_more_is_read(rt: HostRuntime) {
         let mut source = Device::new(Asking::new(lines, lines_a_call, &replied));
         let mut sink = Device::new(Replied(&replied));
         let answer = run(rt.alloc(), Mode::Check, None, &mut source, &mut sink);
-        assert!(rt; matches!(answer, Ok(_)), "{lines_a_call}");
-        assert!(rt; replied.get() == lines, "{lines_a_call}");
+        check_at(&rt, matches!(answer, Ok(_)), &lines_a_call);
+        check_at(&rt, replied.get() == lines, &lines_a_call);
         let source = source.into_inner();
-        assert!(rt;
+        check_at(
+            &rt,
             (source.calls, source.early) == (calls, 0),
-            "{lines_a_call}"
+            &lines_a_call,
         );
     }
 }
@@ -60,9 +62,9 @@ fn many_lines_are_written_in_few_calls(rt: HostRuntime) {
     }
     let reader = Supply::once(input.as_slice(), 1 << 20, None);
     let (answer, _source, sink) = ran(rt.alloc(), Mode::Check, reader, Slow::roomy(rt.alloc()));
-    assert!(rt; answer.ok() == Some(10_000));
-    assert!(rt; sink.taken.len() == 100_000);
-    assert!(rt; sink.calls <= 10);
+    check(&rt, answer.ok() == Some(10_000));
+    check(&rt, sink.taken.len() == 100_000);
+    check(&rt, sink.calls <= 10);
 }
 
 #[test]
@@ -73,9 +75,9 @@ fn modes_say_what_they_are(rt: HostRuntime) {
         (Mode::Sign, "Sign"),
     ];
     for &(mode, form) in &MODES {
-        assert!(rt; debugs(rt.alloc(), &mode, form));
+        check(&rt, debugs(rt.alloc(), &mode, form));
         for &(other, another) in &MODES {
-            assert!(rt; (mode == other) == (form == another), "{mode:?}, {other:?}");
+            check_at(&rt, (mode == other) == (form == another), &(mode, other));
         }
     }
 }
@@ -105,9 +107,13 @@ fn faults_say_what_they_are(rt: HostRuntime) {
         ],
     );
     let text = format!(in rt.alloc(); "{}", ToolError::TooManyLines).expect(&rt, "memory");
-    assert!(rt;
+    check_at(
+        &rt,
         text.starts_with("there are more than 1000000 lines"),
-        "{text}"
+        &text,
     );
-    assert!(rt; debugs(rt.alloc(), &ToolError::TooManyLines, "TooManyLines"));
+    check(
+        &rt,
+        debugs(rt.alloc(), &ToolError::TooManyLines, "TooManyLines"),
+    );
 }

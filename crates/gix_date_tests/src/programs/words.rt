@@ -1,4 +1,5 @@
 //! The words of a command line as a system gives them, and texts that are sent in pieces.
+use crate::fakes::answers::{check, check_at};
 use crate::fakes::machine::Machine;
 use crate::fakes::{Dribble, Slow, take_all};
 use gix_date::device::Device;
@@ -13,11 +14,14 @@ fn the_words_come_after_the_programs_name(rt: HostRuntime) {
     const LENGTHS: [usize; 4] = [5, 0, 2, 5000];
     let machine = Machine::called(rt, &[b"tool", b"parse", b"", b"\xc3\xa9", &LONG]);
     let given = words(&machine).expect(&rt, "memory").expect(&rt, "words");
-    assert!(rt; given.len() == LENGTHS.len());
+    check(&rt, given.len() == LENGTHS.len());
     for (word, length) in given.iter().zip(&LENGTHS) {
-        assert!(rt; word.len() == *length);
+        check(&rt, word.len() == *length);
     }
-    assert!(rt; matches!(given.first(), Some(word) if word.as_str() == "parse"));
+    check(
+        &rt,
+        matches!(given.first(), Some(word) if word.as_str() == "parse"),
+    );
 }
 
 #[test]
@@ -25,20 +29,21 @@ fn a_program_without_words_or_a_name_has_none(rt: HostRuntime) {
     const LINES: [&[&[u8]]; 2] = [&[b"tool"], &[]];
     for &line in &LINES {
         let machine = Machine::called(rt, line);
-        assert!(rt; matches!(words(&machine).expect(&rt, "memory"), Some(none) if none.is_empty()));
+        let given = words(&machine).expect(&rt, "memory");
+        check(&rt, matches!(&given, Some(none) if none.is_empty()));
     }
 }
 
 #[test]
 fn words_that_are_no_text_or_find_no_memory_are_refused(rt: HostRuntime) {
     let wrong = Machine::called(rt, &[b"tool", b"parse", b"\xff"]);
-    assert!(rt; matches!(words(&wrong), Ok(None)));
+    check(&rt, matches!(words(&wrong), Ok(None)));
     let right = Machine::called(rt, &[b"tool", b"parse"]);
     let blocks = take_all(rt.alloc()).expect(&rt, "memory");
     let refused = words(&right).is_err();
     drop(blocks);
-    assert!(rt; refused, "no-memory");
-    assert!(rt; words(&right).is_ok());
+    check_at(&rt, refused, &"no-memory");
+    check(&rt, words(&right).is_ok());
 }
 
 #[test]
@@ -53,11 +58,11 @@ fn a_text_in_pieces_is_sent_at_once_or_in_part(rt: HostRuntime) {
         } else {
             Err(ErrorKind::StorageFull)
         };
-        assert!(rt; sent == due);
+        check(&rt, sent == due);
         let inner = out.into_inner();
-        assert!(rt; inner.took(&text[..room]));
-        assert!(rt; inner.calls <= 2);
+        check(&rt, inner.took(&text[..room]));
+        check(&rt, inner.calls <= 2);
     }
     let mut none = Dribble::new(99);
-    assert!(rt; put_pieces(&[], &mut none) == Ok(()) && none.calls == 0);
+    check(&rt, put_pieces(&[], &mut none) == Ok(()) && none.calls == 0);
 }

@@ -15,7 +15,7 @@ use streams::Outbox;
 #[derive(Drop)]
 pub(crate) struct SignedLine<'a> {
     name: &'a str,
-    mail: &'a str,
+    email: &'a str,
     time: TimeBuf,
 }
 
@@ -28,7 +28,7 @@ impl<'a> Model for SignedLine<'a> {
 
     ghost view = { λ s. line_of (record {
       name = s.name.now;
-      mail = s.mail.now;
+      email = s.email.now;
       time = text_in s.time;
     }) };
 }
@@ -43,8 +43,8 @@ impl SignedLine<'_> {
         ensures { Sends (output outbox.old (W.known out.old)) (output outbox.new (W.known out.new))
             (with_newline self.entry) result }
     {
-        let SignedLine { name, mail, time } = self;
-        outbox.push(&[name, " <", mail, "> ", time.as_str(), "\n"], out)
+        let SignedLine { name, email, time } = self;
+        outbox.push(&[name, " <", email, "> ", time.as_str(), "\n"], out)
     }
 }
 
@@ -65,7 +65,7 @@ pub(crate) fn sign(text: &str) -> Option<SignedLine<'_>>
     };
     Some(SignedLine {
         name: signature.name,
-        mail: signature.mail,
+        email: signature.email,
         time,
     })
 }

@@ -83,10 +83,10 @@ is_control_or_space c = nat_lt nul c && nat_lt c (space + 1)
 abbrev pub is_crud_mark : ℕ → Bool
 is_crud_mark c = c == dot || c == comma || c == colon || c == semicolon || c == quote || c == backslash || c == apostrophe
 
--- crud, which Git cuts off both ends of a name or mail: a byte from 1 to 32, a bracket, or one of seven marks
+-- crud, which Git cuts off both ends of a name or email: a byte from 1 to 32, a bracket, or one of seven marks
 abbrev pub is_crud : ℕ → Bool
 is_crud c = is_control_or_space c || is_bracket c || is_crud_mark c
 
--- what a written name or mail keeps between its ends: all but a bracket or line feed
+-- what a written name or email keeps between its ends: all but a bracket or line feed
 abbrev pub is_kept : ℕ → Bool
 is_kept c = not (is_bracket c || is_newline c)

@@ -22,12 +22,12 @@ abbrev pub from_next_bracket : List ℕ → List ℕ
 from_next_bracket line = from_first is_bracket (after_first is_opening line)
 
 -- what stands after that bracket
-abbrev pub after_mail : List ℕ → List ℕ
-after_mail line = drop 1 (from_next_bracket line)
+abbrev pub after_email : List ℕ → List ℕ
+after_email line = drop 1 (from_next_bracket line)
 
 -- what stands after that bracket and one byte more
 abbrev pub fsck_date : List ℕ → List ℕ
-fsck_date line = drop 1 (after_mail line)
+fsck_date line = drop 1 (after_email line)
 
 -- `0`
 abbrev pub is_zero : ℕ → Bool
@@ -45,7 +45,7 @@ after_number text = option_map_or (λ found. drop 1 found.1) (c_number text) tex
 abbrev pub is_fsck_zone : List ℕ → Bool
 is_fsck_zone text = begins_with is_sign text && length text == 5 && list_all is_ascii_digit (drop 1 text)
 
--- what stands after the mail and one byte has this fault, if the line has none of those before it
+-- what stands after the email and one byte has this fault, if the line has none of those before it
 abbrev pub has_date_fault : List ℕ → FsckId → Bool
 has_date_fault date ZeroPaddedDate = begins_with is_zero date && not (begins_with is_space (drop 1 date))
 has_date_fault date BadDateOverflow = number_is (λ n rest. not (nat_lt n too_many_seconds)) date
@@ -61,7 +61,7 @@ has_fault line BadName = begins_with is_closing (from_bracket line)
 has_fault line MissingEmail = not (list_any is_bracket line)
 has_fault line MissingSpaceBeforeEmail = not (ends_with is_space (before_first is_opening line))
 has_fault line BadEmail = not (begins_with is_closing (from_next_bracket line))
-has_fault line MissingSpaceBeforeDate = not (begins_with is_space (after_mail line))
+has_fault line MissingSpaceBeforeDate = not (begins_with is_space (after_email line))
 has_fault line id = has_date_fault (fsck_date line) id
 
 -- what stands from the place of a fault on: the NUL, the bracket, the line's end, the date or the offset
@@ -72,7 +72,7 @@ from_fault line BadName = from_bracket line
 from_fault line MissingEmail = []
 from_fault line MissingSpaceBeforeEmail = from_bracket line
 from_fault line BadEmail = from_next_bracket line
-from_fault line MissingSpaceBeforeDate = after_mail line
+from_fault line MissingSpaceBeforeDate = after_email line
 from_fault line ZeroPaddedDate = fsck_date line
 from_fault line BadDateOverflow = fsck_date line
 from_fault line BadDate = fsck_date line
@@ -91,6 +91,10 @@ first_fault line = find (has_fault line) fsck_ids
 -- a fault of a line, and how many bytes of the line stand before its place
 abbrev pub fault_at : List ℕ → FsckId → FsckFault
 fault_at line id = record { id = id; place = length line - length (from_fault line id) }
+
+-- the first fault of what stands after the email and one byte, if the line has none before it
+unfoldable pub first_date_fault : List ℕ → Option FsckId
+first_date_fault date = find (has_date_fault date) fsck_ids
 
 -- what `git fsck` says of the line at the front of a text, which ends at its first line feed: its first fault, and the place
 unfoldable pub fsck_of : List ℕ → Option FsckFault

@@ -16,7 +16,7 @@ pub record DateText : Type 0 where
 -- the texts of an identity; `None` where Git shows no date
 pub record IdentText : Type 0 where
   pub name : List ℕ
-  pub mail : List ℕ
+  pub email : List ℕ
   pub date : Option DateText
 
 -- the texts of the slices of a date
@@ -25,7 +25,7 @@ date_text_of d = record { seconds = d.seconds.now; offset = d.offset.now }
 
 -- the texts of the slices of an identity
 abbrev pub ident_text_of : IdentRef → IdentText
-ident_text_of i = record { name = i.name.now; mail = i.mail.now; date = option_map date_text_of i.date }
+ident_text_of i = record { name = i.name.now; email = i.email.now; date = option_map date_text_of i.date }
 
 -- the line has a `<`, and a `>` after it
 abbrev pub has_identity : List ℕ → Bool
@@ -36,8 +36,8 @@ abbrev pub shown_name : List ℕ → List ℕ
 shown_name line = without_end is_blank (before_first is_opening line)
 
 -- what stands between the first `<` and the next `>`
-abbrev pub shown_mail : List ℕ → List ℕ
-shown_mail line = before_first is_closing (after_first is_opening line)
+abbrev pub shown_email : List ℕ → List ℕ
+shown_email line = before_first is_closing (after_first is_opening line)
 
 -- what stands after the last `>` and blanks
 abbrev pub date_text : List ℕ → List ℕ
@@ -65,19 +65,25 @@ date_parts text =
 unfoldable pub line_parts : List ℕ → Option IdentText
 line_parts line =
     if has_identity line
-    then Some (record { name = shown_name line; mail = shown_mail line; date = date_parts (date_text line) }) else None
+    then Some (record { name = shown_name line; email = shown_email line; date = date_parts (date_text line) }) else None
 
 -- what Git shows of the line at the front of a text; `None` where it has no identity
 abbrev pub ident_parts : List ℕ → Option IdentText
 ident_parts text = line_parts (whole_line text)
 
--- where the parts of a whole line stand: how many bytes of the line stand before the mail, the seconds and the offset
+-- what stands after the email and its `>`
+abbrev pub after_shown_email : List ℕ → List ℕ
+after_shown_email line = after_first is_closing (after_first is_opening line)
+
+-- where the parts of a whole line stand: how many bytes of the line stand before each, and how long the line is
 abbrev pub line_places : List ℕ → IdentPlaces
 line_places line =
     record {
-      mail = position_or_len is_opening line + 1;
+      email = position_or_len is_opening line + 1;
+      rest = length line - length (after_shown_email line);
       seconds = length line - length (date_text line);
       offset = length line - length (after_seconds (date_text line));
+      end = length line;
     }
 
 -- where the parts stand that Git shows of the line at the front of a text

@@ -1,5 +1,5 @@
 -- Texts without what stands at their ends.
-use Rattle.std.specs.Prelude.{ℕ, ◌-◌, Bool, false, nat_lt, List, [], ◌∷◌, length, take, drop}
+use Rattle.std.specs.Prelude.{◌≡◌, ◌≢◌, ℕ, ◌-◌, Bool, false, nat_lt, List, [], ◌∷◌, ◌++◌, length, take, drop, Option, Some, None}
 use Rattle.std.specs.List.{prefix_len, suffix_len, position_or_len, before_first}
 use Rattle.gix_signature.specs.Ident.Bytes.{ends_line}
 
@@ -27,3 +27,8 @@ begins_with is (c ∷ rest) = is c
 -- a text ends with such a byte
 abbrev pub ends_with : (ℕ → Bool) → List ℕ → Bool
 ends_with is text = nat_lt 0 (suffix_len is text)
+
+-- what stands after a text at the front of another, or `None` where it does not stand there
+abbrev pub CutsFront : List ℕ → List ℕ → Option (List ℕ) → Type 0
+CutsFront front text (Some rest) = text ≡ front ++ rest
+CutsFront front text None = (rest : List ℕ) → text ≢ front ++ rest

@@ -1,10 +1,16 @@
 -- The time that Git makes of a date's texts, and numbers as C reads them.
-use Rattle.std.specs.Prelude.{ℕ, ◌+◌, ◌-◌, ◌*◌, ◌/◌, ◌%◌, Bool, ◌||◌, nat_lt, int_lt, if◌then◌else◌, List, drop, take_while, ℤ, pos, negsuc}
-use Rattle.std.specs.Prelude.{neg_ℤ, unsigned_abs, Option, Some, None, Result, Ok, Err}
+use Rattle.std.specs.Prelude.{ℕ, ◌+◌, ◌-◌, ◌*◌, ◌/◌, ◌%◌, Bool, ◌||◌, nat_lt, int_lt, if◌then◌else◌, List, [], drop, take_while, ℤ, pos}
+use Rattle.std.specs.Prelude.{negsuc}
+use Rattle.std.specs.Prelude.{◌∷◌, ◌++◌, ◌&&◌, false, neg_ℤ, unsigned_abs, Option, Some, None, Result, Ok, Err}
 use Rattle.std.specs.Char.{is_ascii_digit}
+use Rattle.std.specs.Fmt.{decimal}
+use Rattle.std.specs.Ordering.{int_eq}
 use Rattle.std.specs.Str.Parse.{digits_value, signed_digits_value}
+use Rattle.gix_date.specs.Text.Characters.{space, minus}
 use Rattle.gix_date.specs.Text.Front.{ReadFront}
+use Rattle.gix_date.specs.Text.Numbers.{two_digits, decimal_text}
 use Rattle.gix_date.specs.Fields.ClockNumbers.{seconds_per_minute}
+use Rattle.gix_date.specs.Fields.Offsets.{offset_sign}
 use Rattle.gix_date.specs.declared.time.Time.{Time}
 use Rattle.gix_signature.specs.Ident.Bytes.{is_white, is_sign, is_minus}
 use Rattle.gix_signature.specs.Ident.Texts.{without_front, begins_with}
@@ -33,14 +39,43 @@ kept_offset n = if int_lt n least_offset || int_lt greatest_offset n then pos 0 
 abbrev pub seconds_shown : ℕ → Option ℤ
 seconds_shown n = if nat_lt n too_many_seconds then Some (pos n) else None
 
--- the time of seconds and an offset; without seconds both are 0
-abbrev pub git_time_at : Option ℤ → ℤ → GitTime
-git_time_at (Some seconds) offset = record { seconds = seconds; offset = kept_offset offset }
-git_time_at None offset = record { seconds = pos 0; offset = pos 0 }
+-- a minus stands before an offset that is kept as 0
+abbrev pub is_minus_zero : Bool → ℤ → Bool
+is_minus_zero has_minus kept = has_minus && int_eq kept (pos 0)
 
--- the time that Git shows: the seconds, and the offset as one decimal number; from 2^63 seconds both are 0
+-- the time of seconds, and of an offset's minus and number; without seconds all is 0
+abbrev pub git_time_at : Option ℤ → Bool → ℤ → GitTime
+git_time_at (Some seconds) has_minus n =
+    record { seconds = seconds; offset = kept_offset n; minus_zero = is_minus_zero has_minus (kept_offset n) }
+git_time_at None has_minus n = record { seconds = pos 0; offset = pos 0; minus_zero = false }
+
+-- the time that Git shows: the seconds, and the offset as one decimal number; from 2^63 seconds all is 0
 unfoldable pub git_time : DateText → GitTime
-git_time date = git_time_at (seconds_shown (digits_value 10 date.seconds)) (signed_digits_value 10 date.offset)
+git_time date =
+    git_time_at (seconds_shown (digits_value 10 date.seconds)) (begins_with is_minus date.offset) (signed_digits_value 10 date.offset)
+
+-- the hours and the minutes of an offset's decimal number; minutes may be 60 and more
+abbrev pub hours_written : ℤ → ℕ
+hours_written offset = unsigned_abs offset / 100
+
+abbrev pub minutes_written : ℤ → ℕ
+minutes_written offset = unsigned_abs offset % 100
+
+-- a number in two digits or more
+abbrev pub digits_from_two : ℕ → List ℕ
+digits_from_two n = if nat_lt n 100 then two_digits n else decimal n
+
+-- the digits of an offset's number, with nothing or a colon before the minutes: `0060`, `51800`, `518:00`
+abbrev pub offset_digits : List ℕ → ℤ → List ℕ
+offset_digits mark offset = digits_from_two (hours_written offset) ++ mark ++ two_digits (minutes_written offset)
+
+-- the sign of a written offset; that of 0 is kept
+abbrev pub offset_mark : GitTime → ℕ
+offset_mark t = if t.minus_zero && int_eq t.offset (pos 0) then minus else offset_sign t.offset
+
+-- a time as a line has it: the seconds in decimal, a space, and a sign with at least four digits
+abbrev pub git_time_text : GitTime → List ℕ
+git_time_text t = decimal_text t.seconds ++ space ∷ offset_mark t ∷ offset_digits [] t.offset
 
 -- the widest offset, in minutes, whose seconds 32 bits hold with a sign
 abbrev pub widest_minutes : ℕ

@@ -19,7 +19,7 @@ fn is_white(byte: u8) -> bool
     matches!(byte, b' ' | b'\t' | b'\n' | b'\r' | 11 | 12)
 }
 
-/// What Git cuts off both ends of a name or mail.
+/// What Git cuts off both ends of a name or email.
 pub(crate) fn is_crud(byte: u8) -> bool
     ensures { result ≡ Spec.is_crud byte }
 {
@@ -29,7 +29,7 @@ pub(crate) fn is_crud(byte: u8) -> bool
     )
 }
 
-/// Whether Git keeps a byte of a name or mail between its ends: it leaves out `<`, `>` and line feeds.
+/// Whether Git keeps a byte of a name or email between its ends: it leaves out `<`, `>` and line feeds.
 pub fn is_kept(byte: u8) -> bool
     ensures { result ≡ Spec.is_kept byte }
 {
@@ -170,6 +170,13 @@ pub(crate) fn begins_with(text: &[u8], byte: u8) -> bool
     ensures { result ≡ Spec.begins_with (λ c. c == byte) text.now }
 {
     text.first() == Some(&byte)
+}
+
+/// Whether a text begins with NUL.
+pub(crate) fn begins_with_nul(text: &[u8]) -> bool
+    ensures { result ≡ Spec.begins_with Spec.is_nul text.now }
+{
+    matches!(text, [b'\0', ..])
 }
 
 /// Whether a text begins with a digit.

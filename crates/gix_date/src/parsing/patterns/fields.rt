@@ -4,7 +4,7 @@ ghost use Rattle.std.specs.List.{prefix_len};
 ghost use Rattle.gix_date.specs as Spec;
 
 use crate::clock::{ClockFields, DateFields};
-use crate::names::{month_told, weekday_told};
+use crate::names::{month_of_word, weekday_of_word};
 use crate::parsing::fields::{read_colon_clock, read_marked_date, skip_char};
 use crate::parsing::numbers::{read_field, read_year};
 use crate::time::MAX_SECOND;
@@ -41,14 +41,14 @@ fn spaces_len(text: &str) -> usize
 }
 
 /// The month that three letters name, in any letter case.
-#[tactic(auto, using(crate::proofs::Fields::ThreeLetters::months_told))]
+#[tactic(auto, using(crate::proofs::Fields::ThreeLetters::months_of_words))]
 #[inline(always)]
 fn month_named(a: u8, b: u8, c: u8) -> Option<u8>
     ensures value { result ≡ Spec.month_named (a ∷ b ∷ c ∷ []) }
     ensures small { IfSome result (λ month. month < 100) }
     ensures letters { is_some result ≡ true → Spec.AreThreeLetters (a ∷ b ∷ c ∷ []) }
 {
-    month_told(&[a, b, c])
+    month_of_word(&[a, b, c])
 }
 
 /// Whether three letters name a day of the week, in any letter case.
@@ -58,7 +58,7 @@ fn is_weekday(a: u8, b: u8, c: u8) -> bool
     ensures value { result ≡ Spec.is_weekday (a ∷ b ∷ c ∷ []) }
     ensures letters { result ≡ true → Spec.AreThreeLetters (a ∷ b ∷ c ∷ []) }
 {
-    weekday_told(&[a, b, c]).is_some()
+    weekday_of_word(&[a, b, c]).is_some()
 }
 
 /// A month's name at the front.

@@ -12,7 +12,7 @@ returns-in_err-put_bytes g c =
     let named = g.W.Sink.known c.put_part.new.out in
     let new = g.W.Sink.known c.put_bytes.new.out in
     let kind = c.in_err-put_bytes.field-0.0 in
-    let fact : Puts old new (line_of (parts_put c.args.is_whole c.args.name.now c.args.mail.now c.args.time.now)) (Err kind) =
+    let fact : Puts old new (line_of (parts_put c.args.is_whole c.args.name.now c.args.email.now c.args.time.now)) (Err kind) =
     Puts-after old named new (part_put c.args.is_whole c.args.name.now) _ (Err kind) c.in_ok-put_part.ensures
     (Puts-more named new (codes " <") _ kind c.in_err-put_bytes.ensures) in
     search (rules, fact)
@@ -24,10 +24,10 @@ returns-in_err-put_part-2 g c =
     let opened = g.W.Sink.known c.put_bytes.new.out in
     let new = g.W.Sink.known c.put_part-2.new.out in
     let kind = c.in_err-put_part-2.field-0.0 in
-    let fact : Puts old new (line_of (parts_put c.args.is_whole c.args.name.now c.args.mail.now c.args.time.now)) (Err kind) =
+    let fact : Puts old new (line_of (parts_put c.args.is_whole c.args.name.now c.args.email.now c.args.time.now)) (Err kind) =
     Puts-after old named new (part_put c.args.is_whole c.args.name.now) _ (Err kind) c.in_ok-put_part.ensures
     (Puts-after named opened new (codes " <") _ (Err kind) c.in_ok-put_bytes.ensures
-    (Puts-more opened new (part_put c.args.is_whole c.args.mail.now) _ kind c.in_err-put_part-2.ensures)) in
+    (Puts-more opened new (part_put c.args.is_whole c.args.email.now) _ kind c.in_err-put_part-2.ensures)) in
     search (rules, fact)
 
 pub returns-in_err-put_bytes-2 : goal.returns-in_err-put_bytes-2
@@ -38,10 +38,10 @@ returns-in_err-put_bytes-2 g c =
     let mailed = g.W.Sink.known c.put_part-2.new.out in
     let new = g.W.Sink.known c.put_bytes-2.new.out in
     let kind = c.in_err-put_bytes-2.field-0.0 in
-    let fact : Puts old new (line_of (parts_put c.args.is_whole c.args.name.now c.args.mail.now c.args.time.now)) (Err kind) =
+    let fact : Puts old new (line_of (parts_put c.args.is_whole c.args.name.now c.args.email.now c.args.time.now)) (Err kind) =
     Puts-after old named new (part_put c.args.is_whole c.args.name.now) _ (Err kind) c.in_ok-put_part.ensures
     (Puts-after named opened new (codes " <") _ (Err kind) c.in_ok-put_bytes.ensures
-    (Puts-after opened mailed new (part_put c.args.is_whole c.args.mail.now) _ (Err kind) c.in_ok-put_part-2.ensures
+    (Puts-after opened mailed new (part_put c.args.is_whole c.args.email.now) _ (Err kind) c.in_ok-put_part-2.ensures
     (Puts-more mailed new (codes "> ") _ kind c.in_err-put_bytes-2.ensures))) in
     search (rules, fact)
 
@@ -57,5 +57,5 @@ returns g c =
     let last = subst (λ (t : List ℕ). Puts closed new t r) c.as_bytes.ensures.value c.put_bytes-3.ensures in
     Puts-after old named new (part_put c.args.is_whole c.args.name.now) _ r c.in_ok-put_part.ensures
     (Puts-after named opened new (codes " <") _ r c.in_ok-put_bytes.ensures
-    (Puts-after opened mailed new (part_put c.args.is_whole c.args.mail.now) _ r c.in_ok-put_part-2.ensures
+    (Puts-after opened mailed new (part_put c.args.is_whole c.args.email.now) _ r c.in_ok-put_part-2.ensures
     (Puts-after mailed closed new (codes "> ") _ r c.in_ok-put_bytes-2.ensures last)))

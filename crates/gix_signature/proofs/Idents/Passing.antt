@@ -14,7 +14,7 @@ use Rattle.gix_date.specs.Fields.Offsets.{compact_offset_text, offset_sign, hour
 use Rattle.std.specs.Fmt.{decimal}
 use Rattle.gix_signature.specs.Signature.{Parts, is_allowed, is_part, line_of, opening, closing}
 use Rattle.gix_signature.specs.Ident.Bytes.{is_opening, is_closing, is_bracket, is_newline, is_nul, is_blank, ends_line}
-use Rattle.gix_signature.specs.Ident.Texts.{from_first, begins_with, ends_with, without_front, without_end}
+use Rattle.gix_signature.specs.Ident.Texts.{whole_line, from_first, begins_with, ends_with, without_front, without_end}
 use Rattle.gix_signature.specs.Ident.Parts.{ident_parts, line_parts, date_parts, date_text}
 use Rattle.gix_signature.specs.Ident.Fsck.{fsck_of, fsck_ids, first_fault, fault_at, has_fault, from_bracket, from_next_bracket, fsck_date}
 use Rattle.gix_signature.specs.Ident.Fsck.{has_date_fault}
@@ -26,8 +26,9 @@ use Rattle.gix_signature.specs.declared.fsck.FsckId.TheVariants.{MissingSpaceBef
 use Rattle.gix_signature.specs.declared.fsck.FsckId.TheVariants.{BadDateOverflow, BadDate, BadTimezone}
 use Rattle.gix_signature.proofs.Cuts.{ArePlain, all-of, marked, no-opening, after_name}
 use Rattle.gix_signature.proofs.Texts.{none_there}
-use Rattle.gix_signature.proofs.Shown.{Cut, cut-of, run-len, run-all, place-at, there-at, last-len, end-more, all_stand_before, all-on}
-use Rattle.gix_signature.proofs.Shown.{goes_on, no-closing}
+use Rattle.gix_signature.proofs.Idents.Shown.{Cut, cut-of, run-len, run-all, place-at, there-at, last-len, end-more, all_stand_before}
+use Rattle.gix_signature.proofs.Idents.Shown.{all-on}
+use Rattle.gix_signature.proofs.Idents.Shown.{goes_on, no-closing}
 use Rattle.gix_signature.proofs.DateTexts.{IsDate, no-date-fault, parts, stays, front-more, are-decimal, date-is, time-is}
 
 -- a line without a fault has no first one
@@ -43,7 +44,7 @@ first-none line none = find-none (has_fault line) none fsck_ids
 none-passes : (p : ℕ → Bool) (xs : List ℕ) → list_all (λ c. not (p c)) xs ≡ true → list_any p xs ≡ false
 none-passes p xs h = none_there p xs (run-all (λ c. not (p c)) xs h)
 
-from-at : (p : ℕ → Bool) (xs ys : List ℕ) (c : ℕ) → list_all (λ b. not (p b)) xs ≡ true → p c ≡ true
+pub from-at : (p : ℕ → Bool) (xs ys : List ℕ) (c : ℕ) → list_all (λ b. not (p b)) xs ≡ true → p c ≡ true
     → from_first p (xs ++ (c ∷ ys)) ≡ c ∷ ys
 from-at p xs ys c others is = ap (λ n. drop n (xs ++ (c ∷ ys))) (place-at p xs ys c others is) ∙ drop-append_seam xs (c ∷ ys)
 
@@ -90,7 +91,7 @@ no-bracket-byte true b c d h = absurd cc
 no-bracket-byte false true c d h = absurd cc
 no-bracket-byte false false c d h = refl
 
-not-left : (a b : Bool) → not (a || b) ≡ true → not a ≡ true
+pub not-left : (a b : Bool) → not (a || b) ≡ true → not a ≡ true
 not-left true b h = absurd cc
 not-left false b h = refl
 
@@ -101,7 +102,7 @@ not-right false b h = h
 no-bracket : (xs : List ℕ) → is_part xs ≡ true → list_all not_bracket xs ≡ true
 no-bracket = all-of is_allowed not_bracket (λ c h. no-bracket-byte (c == 60) (c == 62) (c == 10) (c == 0) h)
 
-module _ (name mail : List ℕ) (n d : ℕ) (ds : List ℕ) (s : ℕ) (zs : List ℕ) (is : IsDate n d ds s zs) where
+module _ (name email : List ℕ) (n d : ℕ) (ds : List ℕ) (s : ℕ) (zs : List ℕ) (is : IsDate n d ds s zs) where
   abbrev zone : List ℕ
   zone = s ∷ zs
 
@@ -109,7 +110,7 @@ module _ (name mail : List ℕ) (n d : ℕ) (ds : List ℕ) (s : ℕ) (zs : List
   date = d ∷ (ds ++ (32 ∷ zone))
 
   abbrev the_parts : Parts
-  the_parts = record { name = name; mail = mail; time = date }
+  the_parts = record { name = name; email = email; time = date }
 
   abbrev line : List ℕ
   line = line_of the_parts
@@ -121,7 +122,7 @@ module _ (name mail : List ℕ) (n d : ℕ) (ds : List ℕ) (s : ℕ) (zs : List
   dated = closing ∷ (32 ∷ date)
 
   module _ (are : ArePlain the_parts) where
-    cut : Cut line the_parts
+    pub cut : Cut line the_parts
     cut = cut-of the_parts are
 
     same : line ≡ named ++ (opening ∷ after_name the_parts)
@@ -143,75 +144,79 @@ module _ (name mail : List ℕ) (n d : ℕ) (ds : List ℕ) (s : ℕ) (zs : List
     bracket = ap (λ l. from_bracket l) same ∙ from-at is_bracket named (after_name the_parts) opening no-mark refl
 
     next : from_next_bracket line ≡ dated
-    next = ap (λ l. from_first is_bracket l) cut.rest ∙ from-at is_bracket mail (32 ∷ date) closing (no-bracket mail are.mail) refl
+    next = ap (λ l. from_first is_bracket l) cut.rest ∙ from-at is_bracket email (32 ∷ date) closing (no-bracket email are.email) refl
 
-    fault-date : (id : FsckId) → has_date_fault (fsck_date line) id ≡ false
-    fault-date id = ap (λ l. has_date_fault (drop 1 (drop 1 l)) id) next ∙ no-date-fault n d ds s zs is id
+    fault-date : length zs ≡ 4 → (id : FsckId) → has_date_fault (fsck_date line) id ≡ false
+    fault-date four id = ap (λ l. has_date_fault (drop 1 (drop 1 l)) id) next ∙ no-date-fault n d ds s zs is four id
 
     spaced : ends_with is_space named ≡ true
     spaced = ap (λ k. nat_lt 0 k) (last-len is_space name 32) ∙ grind (arith, nat_tests)
 
-    no-fault : (id : FsckId) → has_fault line id ≡ false
-    no-fault NulInHeader = none-passes is_nul line no-nul
-    no-fault MissingNameBeforeEmail = begins-other is_opening name (opening ∷ after_name the_parts) 32 (no-opening name are.name) refl
-    no-fault BadName = ap (λ l. begins_with is_closing l) bracket
-    no-fault MissingEmail = ap (λ l. not (list_any is_bracket l)) same
+    no-fault : length zs ≡ 4 → (id : FsckId) → has_fault line id ≡ false
+    no-fault four NulInHeader = none-passes is_nul line no-nul
+    no-fault four MissingNameBeforeEmail = begins-other is_opening name (opening ∷ after_name the_parts) 32 (no-opening name are.name) refl
+    no-fault four BadName = ap (λ l. begins_with is_closing l) bracket
+    no-fault four MissingEmail = ap (λ l. not (list_any is_bracket l)) same
         ∙ ap not (there-at is_bracket named (after_name the_parts) opening no-mark refl)
-    no-fault MissingSpaceBeforeEmail = ap (λ l. not (ends_with is_space l)) cut.name ∙ ap not spaced
-    no-fault BadEmail = ap (λ l. not (begins_with is_closing l)) next
-    no-fault MissingSpaceBeforeDate = ap (λ l. not (begins_with is_space (drop 1 l))) next
-    no-fault ZeroPaddedDate = fault-date ZeroPaddedDate
-    no-fault BadDateOverflow = fault-date BadDateOverflow
-    no-fault BadDate = fault-date BadDate
-    no-fault BadTimezone = fault-date BadTimezone
+    no-fault four MissingSpaceBeforeEmail = ap (λ l. not (ends_with is_space l)) cut.name ∙ ap not spaced
+    no-fault four BadEmail = ap (λ l. not (begins_with is_closing l)) next
+    no-fault four MissingSpaceBeforeDate = ap (λ l. not (begins_with is_space (drop 1 l))) next
+    no-fault four ZeroPaddedDate = fault-date four ZeroPaddedDate
+    no-fault four BadDateOverflow = fault-date four BadDateOverflow
+    no-fault four BadDate = fault-date four BadDate
+    no-fault four BadTimezone = fault-date four BadTimezone
 
-    pub no-message : fsck_of line ≡ None
+    pub no-message : length zs ≡ 4 → fsck_of line ≡ None
     unfolding fsck_of
-    no-message = ap (λ l. option_map (fault_at l) (first_fault l)) (all_stand_before is_newline line no-newline)
-        ∙ ap (λ o. option_map (fault_at line) o) (first-none line no-fault)
+    no-message four = ap (λ l. option_map (fault_at l) (first_fault l)) (all_stand_before is_newline line no-newline)
+        ∙ ap (λ o. option_map (fault_at line) o) (first-none line (no-fault four))
 
-    tail : date_text line ≡ date
+    pub tail : date_text line ≡ date
     tail =
-        ap (λ l. without_front is_blank (after_last is_closing l)) (sym (append_assoc name (32 ∷ (opening ∷ mail)) dated))
+        ap (λ l. without_front is_blank (after_last is_closing l)) (sym (append_assoc name (32 ∷ (opening ∷ email)) dated))
         ∙ ap (λ l. without_front is_blank l)
-        (after-last is_closing (name ++ (32 ∷ (opening ∷ mail))) (32 ∷ date) closing (no-closing date are.time) refl)
+        (after-last is_closing (name ++ (32 ∷ (opening ∷ email))) (32 ∷ date) closing (no-closing date are.time) refl)
         ∙ front-more is_blank 32 date refl ∙ stays n d ds s zs is
 
     shown-so : line_parts line
-        ≡ Some (record { name = without_end is_blank name; mail = mail; date = Some (record { seconds = d ∷ ds; offset = zone }) })
+        ≡ Some (record { name = without_end is_blank name; email = email; date = Some (record { seconds = d ∷ ds; offset = zone }) })
     unfolding line_parts
     shown-so =
         ap (λ b. cond b (Some (record {
           name = without_end is_blank (before_first is_opening line);
-          mail =
+          email =
               before_first is_closing (after_first is_opening line);
           date = date_parts (date_text line);
         })) None) cut.has
-        ∙ ap₂ (λ x y. Some (record { name = x; mail = y; date = date_parts (date_text line) }))
-        (ap (λ l. without_end is_blank l) cut.name ∙ end-more is_blank name 32 refl) cut.mail
-        ∙ ap (λ o. Some (record { name = without_end is_blank name; mail = mail; date = o })) (ap date_parts tail ∙ parts n d ds s zs is)
+        ∙ ap₂ (λ x y. Some (record { name = x; email = y; date = date_parts (date_text line) }))
+        (ap (λ l. without_end is_blank l) cut.name ∙ end-more is_blank name 32 refl) cut.email
+        ∙ ap (λ o. Some (record { name = without_end is_blank name; email = email; date = o })) (ap date_parts tail ∙ parts n d ds s zs is)
+
+    pub is_whole : whole_line line ≡ line
+    is_whole = all_stand_before ends_line line goes-on
 
     pub shown : ident_parts line
-        ≡ Some (record { name = without_end is_blank name; mail = mail; date = Some (record { seconds = d ∷ ds; offset = zone }) })
-    shown = ap line_parts (all_stand_before ends_line line goes-on) ∙ shown-so
+        ≡ Some (record { name = without_end is_blank name; email = email; date = Some (record { seconds = d ∷ ds; offset = zone }) })
+    shown = ap line_parts is_whole ∙ shown-so
 
 -- The line of plain parts and a time from the epoch on.
-pub passes-as : (name mail : List ℕ) (n : ℕ) (o : ℤ) → n < too_many_seconds → unsigned_abs o < 360000
-    → (text : List ℕ) → text ≡ decimal n ++ (space ∷ compact_offset_text o) → ArePlain (record { name = name; mail = mail; time = text })
-    → PassesAs (without_end is_blank name) mail (in_minutes (record { seconds = pos n; offset = o }))
-    (line_of (record { name = name; mail = mail; time = text }))
-passes-as name mail n o small short text whole are =
+pub passes-as : (name email : List ℕ) (n : ℕ) (o : ℤ) → n < too_many_seconds → unsigned_abs o < 360000
+    → (text : List ℕ) → text ≡ decimal n ++ (space ∷ compact_offset_text o) → ArePlain (record { name = name; email = email; time = text })
+    → PassesAs (without_end is_blank name) email (in_minutes (record { seconds = pos n; offset = o }))
+    (line_of (record { name = name; email = email; time = text }))
+passes-as name email n o small short text whole are =
     let k = are-decimal n (omega (arith, small)) in
     let is = date-is n o k small short in
     let ds = k.first ∷ k.rest in
     let zone = compact_offset_text o in
     let same : text ≡ ds ++ (32 ∷ zone) = whole ∙ ap (λ xs. xs ++ (32 ∷ zone)) k.whole in
-    let at : (t : List ℕ) → Parts = λ t. record { name = name; mail = mail; time = t } in
+    let at : (t : List ℕ) → Parts = λ t. record { name = name; email = email; time = t } in
     let plain = subst (λ t. ArePlain (at t)) same are in
-    subst (λ t. PassesAs (without_end is_blank name) mail (in_minutes (record { seconds = pos n; offset = o })) (line_of (at t))) (sym same)
+    subst (λ t. PassesAs (without_end is_blank name) email (in_minutes (record { seconds = pos n; offset = o })) (line_of (at t)))
+    (sym same)
     (record {
       date = record { seconds = ds; offset = zone };
-      passes = no-message name mail n k.first k.rest (offset_sign o) (hours_and_minutes (unsigned_abs o)) is plain;
-      is_shown = shown name mail n k.first k.rest (offset_sign o) (hours_and_minutes (unsigned_abs o)) is plain;
+      passes = no-message name email n k.first k.rest (offset_sign o) (hours_and_minutes (unsigned_abs o)) is plain refl;
+      is_shown = shown name email n k.first k.rest (offset_sign o) (hours_and_minutes (unsigned_abs o)) is plain;
       is_dated = time-is n o ds small short is.value;
     })

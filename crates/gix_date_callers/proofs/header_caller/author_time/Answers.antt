@@ -4,7 +4,7 @@ use Rattle.gix_date.specs.Header.Reading.{header_time}
 use Rattle.gix_date.specs.declared.time.Time.{Time}
 use Rattle.gix_signature.specs.Signature.{Parts, IsCut, OneCut, parts_of}
 use Rattle.gix_date_callers.specs.Authored.{IsAuthored}
-use Rattle.gix_date_callers.proofs.signature_caller.author_time.Goals as goal
+use Rattle.gix_date_callers.proofs.header_caller.author_time.Goals as goal
 
 -- the one cut of the line says no time
 no-time : (r : Option Time) (line author : List ℕ) (s : Parts) → r ≡ header_time s.time → line ≡ codes "author " ++ author → IsCut author s

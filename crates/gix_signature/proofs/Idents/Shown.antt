@@ -59,6 +59,10 @@ last-len p xs c = ap (λ ys. prefix_len p ys) (reverse-append xs (c ∷ []))
 pub end-more : (p : ℕ → Bool) (xs : List ℕ) (c : ℕ) → p c ≡ true → without_end p (xs ++ (c ∷ [])) ≡ without_end p xs
 end-more p xs c is = grind (arith, last-len, length-append, take-append-le)
 
+-- what ends with another byte keeps its end
+pub end-stays : (p : ℕ → Bool) (xs : List ℕ) (c : ℕ) → p c ≡ false → without_end p (xs ++ (c ∷ [])) ≡ xs ++ (c ∷ [])
+end-stays p xs c h = grind (arith, last-len, take_all)
+
 -- no byte of a line that is cut ends it
 last-two : (a b c d : Bool) → not (a || b || c || d) ≡ true → not (c || d) ≡ true
 last-two true b c d h = absurd cc
@@ -93,8 +97,8 @@ all_stand_before p xs h = ap (λ n. take n xs) (run-all (λ c. not (p c)) xs h) 
 pub record Cut (line : List ℕ) (p : Parts) : Type 0 where
   pub has : has_identity line ≡ true
   pub name : before_first is_opening line ≡ p.name ++ (32 ∷ [])
-  pub rest : after_first is_opening line ≡ p.mail ++ (closing ∷ (32 ∷ p.time))
-  pub mail : before_first is_closing (after_first is_opening line) ≡ p.mail
+  pub rest : after_first is_opening line ≡ p.email ++ (closing ∷ (32 ∷ p.time))
+  pub email : before_first is_closing (after_first is_opening line) ≡ p.email
 
 pub cut-of : (p : Parts) → ArePlain p → Cut (line_of p) p
 cut-of p are =
@@ -102,31 +106,31 @@ cut-of p are =
     let front : list_all (λ b. not (is_opening b)) (p.name ++ blank) ≡ true =
     all-append (λ b. not (is_opening b)) p.name blank (no-opening p.name are.name) refl in
     let same : line_of p ≡ (p.name ++ blank) ++ (opening ∷ after_name p) = marked p.name (after_name p) in
-    let rest : after_first is_opening (line_of p) ≡ p.mail ++ (closing ∷ (32 ∷ p.time)) =
+    let rest : after_first is_opening (line_of p) ≡ p.email ++ (closing ∷ (32 ∷ p.time)) =
     ap (λ l. after_first is_opening l) same ∙ after-at is_opening (p.name ++ blank) (after_name p) opening front refl in
-    let closes = no-closing p.mail are.mail in
+    let closes = no-closing p.email are.email in
     record {
       has = and_from (list_any is_opening (line_of p)) (list_any is_closing (after_first is_opening (line_of p)))
           (ap (λ l. list_any is_opening l) same ∙ there-at is_opening (p.name ++ blank) (after_name p) opening front refl)
-          (ap (λ l. list_any is_closing l) rest ∙ there-at is_closing p.mail (32 ∷ p.time) closing closes refl);
+          (ap (λ l. list_any is_closing l) rest ∙ there-at is_closing p.email (32 ∷ p.time) closing closes refl);
       rest = rest;
       name = ap (λ l. before_first is_opening l) same ∙ before-at is_opening (p.name ++ blank) (after_name p) opening front refl;
-      mail = ap (λ l. before_first is_closing l) rest ∙ before-at is_closing p.mail (32 ∷ p.time) closing closes refl;
+      email = ap (λ l. before_first is_closing l) rest ∙ before-at is_closing p.email (32 ∷ p.time) closing closes refl;
     }
 
 shown-by : (line : List ℕ) (p : Parts) → Cut line p → (b : Bool) → has_identity line ≡ b → b ≡ true
     → IsSomeAnd (cond b (Some (record {
       name = without_end is_blank (before_first is_opening line);
-      mail =
+      email =
           before_first is_closing (after_first is_opening line);
       date = date_parts (date_text line);
     })) None)
-    (λ (i : IdentText). (i.name ≡ without_end is_blank p.name) × (i.mail ≡ p.mail))
-shown-by line p cut true e t = (ap (λ l. without_end is_blank l) cut.name ∙ end-more is_blank p.name 32 refl, cut.mail)
+    (λ (i : IdentText). (i.name ≡ without_end is_blank p.name) × (i.email ≡ p.email))
+shown-by line p cut true e t = (ap (λ l. without_end is_blank l) cut.name ∙ end-more is_blank p.name 32 refl, cut.email)
 shown-by line p cut false e t = absurd cc
 
 shown : (line : List ℕ) (p : Parts) → Cut line p
-    → IsSomeAnd (line_parts line) (λ (i : IdentText). (i.name ≡ without_end is_blank p.name) × (i.mail ≡ p.mail))
+    → IsSomeAnd (line_parts line) (λ (i : IdentText). (i.name ≡ without_end is_blank p.name) × (i.email ≡ p.email))
 unfolding line_parts
 shown line p cut = shown-by line p cut (has_identity line) refl cut.has
 
