@@ -22,6 +22,8 @@ static uint32_t call(char kind, uint32_t format, const char *text, size_t len)
     gix_date_time time;
     git_date_exact exact;
     git_date_approximate guess;
+    gix_date_ident_parts ident;
+    gix_date_signature parts;
     char out[64];
     size_t out_len, place;
     switch (kind) {
@@ -55,6 +57,12 @@ static uint32_t call(char kind, uint32_t format, const char *text, size_t len)
     case 'F':
         return git_date_show_by_format(&day, text, len, false, &zone, out, sizeof out, &out_len,
                                        &place);
+    case 'i':
+        return gix_date_ident(text, len, &ident);
+    case 'q':
+        return gix_date_fsck(text, len, &place);
+    case 'u':
+        return gix_date_cut_signature(text, len, &parts);
     case 'Z':
         return gix_date_zone_read(bytes, bytes_len, &zone);
     default:
@@ -69,10 +77,19 @@ static uint32_t call_lines(char kind, uint32_t reader, const char *block, size_t
 {
     static int64_t seconds[LINES];
     static int32_t offsets[LINES];
-    static uint32_t statuses[LINES];
+    static uint32_t statuses[LINES], messages[LINES];
     static uint8_t canonical[LINES];
+    static gix_date_ident_parts idents[LINES];
     size_t done, taken;
     switch (kind) {
+    case 'I':
+        done = gix_date_ident_lines(block, len, idents, LINES, seconds, LINES, offsets, LINES, messages, LINES,
+                                    statuses, LINES, &taken);
+        break;
+    case 'J':
+        done = gix_date_ident_lines(block, len, NULL, 0, seconds, LINES, offsets, LINES, messages, LINES,
+                                    statuses, LINES, &taken);
+        break;
     case 'C':
         done = gix_date_check_lines(block, len, canonical, LINES, &taken);
         break;
@@ -127,7 +144,7 @@ int main(int count, char **words)
     size_t len = strlen(words[3]);
     uint32_t status = strcmp(words[2], "-") ? read_zone(words[2]) : 0;
     long times = strtol(words[4], NULL, 10);
-    if (strchr("LCDA", kind)) {
+    if (strchr("LCDAIJ", kind)) {
         status |= read_lines(kind, format, words[3], times);
         times = 0;
     }

@@ -37,9 +37,8 @@ pub extern "C" fn gix_date_ident_lines(
     let mut done = 0;
     'lines: while let Some((line, after)) = next_line(left, done, room) {
         let before = block.len() - left.len();
-        let told = told_line(line);
-        store_told(
-            done, before, &told, parts, seconds, offsets, messages, statuses,
+        tell_line(
+            done, before, line, parts, seconds, offsets, messages, statuses,
         );
         left = after;
         done += 1;
@@ -77,22 +76,63 @@ fn lesser_room(a: usize, b: usize) -> usize
     }
 }
 
-/// What is told of a line. One walk tells it of a line as most are.
+/// Stores what is told of a line that stands behind so many bytes of the block. One walk tells it of a line as most are.
 #[inline(always)]
-fn told_line(line: &[u8]) -> ToldLine
-    ensures ident { result.ident ≡ Spec.ident_answer line.now }
-    ensures message { result.message ≡ Spec.fsck_number (GixSignature.fsck_of line.now) }
+fn tell_line(
+    at: usize,
+    before: usize,
+    line: &[u8],
+    parts: &mut [CIdent],
+    seconds: &mut [i64],
+    offsets: &mut [i32],
+    messages: &mut [u32],
+    statuses: &mut [u32],
+)
+    requires { IfOk (Spec.ident_answer line.now) (Spec.FitsInBlock before) }
+    ensures { record { parts = parts.new; seconds = seconds.new; offsets = offsets.new; messages = messages.new; statuses = statuses.new }
+        ≡ Spec.with_ident at (Spec.answer_in_block before (Spec.ident_answer line.now)) (Spec.fsck_number (GixSignature.fsck_of line.now))
+        (record { parts = parts.old; seconds = seconds.old; offsets = offsets.old; messages = messages.old; statuses = statuses.old }) }
 {
     match usual_for_c(line) {
-        Some(ident) => ToldLine {
-            ident: Ok(ident),
-            message: 0,
-        },
-        None => ToldLine {
-            ident: any_ident(line),
-            message: message_of(line),
-        },
+        Some(ident) => {
+            let told = ToldLine {
+                ident: Ok(ident),
+                message: 0,
+            };
+            store_told(
+                at, before, &told, parts, seconds, offsets, messages, statuses,
+            );
+        }
+        None => tell_any(
+            at, before, line, parts, seconds, offsets, messages, statuses,
+        ),
     }
+}
+
+/// The same of any line.
+#[inline(never)]
+fn tell_any(
+    at: usize,
+    before: usize,
+    line: &[u8],
+    parts: &mut [CIdent],
+    seconds: &mut [i64],
+    offsets: &mut [i32],
+    messages: &mut [u32],
+    statuses: &mut [u32],
+)
+    requires { IfOk (Spec.ident_answer line.now) (Spec.FitsInBlock before) }
+    ensures { record { parts = parts.new; seconds = seconds.new; offsets = offsets.new; messages = messages.new; statuses = statuses.new }
+        ≡ Spec.with_ident at (Spec.answer_in_block before (Spec.ident_answer line.now)) (Spec.fsck_number (GixSignature.fsck_of line.now))
+        (record { parts = parts.old; seconds = seconds.old; offsets = offsets.old; messages = messages.old; statuses = statuses.old }) }
+{
+    let told = ToldLine {
+        ident: any_ident(line),
+        message: message_of(line),
+    };
+    store_told(
+        at, before, &told, parts, seconds, offsets, messages, statuses,
+    );
 }
 
 /// The number of what `git fsck` says of a line, or 0.
