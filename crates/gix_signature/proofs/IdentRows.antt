@@ -10,6 +10,7 @@ use Rattle.gix_signature.specs.Ident.Times.{git_time, git_time_text, time_of_git
 use Rattle.gix_signature.specs.Ident.Again.{is_line_of}
 use Rattle.gix_signature.specs.Ident.Fsck.{fsck_of, first_fault}
 use Rattle.gix_signature.specs.Ident.Due.{cleaned, ident_due}
+use Rattle.gix_signature.specs.Objects.{first_named, last_named}
 use Rattle.gix_signature.specs.declared.error.IdentFault.TheVariants.{NulInPart, EmptyName, OnlyCrud, BeforeEpoch, OffsetTooWide}
 use Rattle.gix_signature.specs.declared.fsck.FsckFault.{FsckFault}
 use Rattle.gix_signature.specs.declared.fsck.FsckId.{FsckId}
@@ -17,6 +18,7 @@ use Rattle.gix_signature.specs.declared.fsck.FsckId.TheVariants.{NulInHeader, Mi
 use Rattle.gix_signature.specs.declared.fsck.FsckId.TheVariants.{MissingSpaceBeforeEmail, BadEmail, MissingSpaceBeforeDate, ZeroPaddedDate}
 use Rattle.gix_signature.specs.declared.fsck.FsckId.TheVariants.{BadDateOverflow, BadDate, BadTimezone}
 use Rattle.gix_signature.specs.declared.ident.GitTime.{GitTime}
+use Rattle.gix_signature.specs.declared.object.Role.TheVariants.{Author, Committer, Tagger}
 
 abbrev date : List ℕ → List ℕ → DateText
 date seconds offset = record { seconds = seconds; offset = offset }
@@ -162,3 +164,14 @@ refused : (ident_due [] (0 ∷ []) now ≡ Err NulInPart)
     × (ident_due (codes "A") (codes "a") (record { seconds = pos 0; offset = pos 360000 }) ≡ Err OffsetTooWide)
 unfolding ident_due header_text digits
 refused = (refl, refl, refl, refl, refl)
+
+-- a commit of two authors, and a line of its message
+abbrev commit : List ℕ
+commit = codes "tree 4b82\nauthor A <a> 1 +0000\nauthor B <b> 2 +0000\ncommitter C <c> 3 +0000\n\nauthor D <d> 4 +0000\n"
+
+-- whom `git for-each-ref` shows first, and `git log` last
+named_lines : (first_named Author commit ≡ Some (codes "A <a> 1 +0000")) × (last_named Author commit ≡ Some (codes "B <b> 2 +0000"))
+    × (last_named Committer commit ≡ Some (codes "C <c> 3 +0000")) × (first_named Tagger commit ≡ None)
+    × (last_named Tagger (codes "object 4b82\ntagger T <t> 1 +0000") ≡ Some (codes "T <t> 1 +0000"))
+    × (first_named Author (codes "\nauthor A <a> 1 +0000") ≡ None)
+named_lines = (refl, refl, refl, refl, refl, refl)
