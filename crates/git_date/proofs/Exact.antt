@@ -2,6 +2,7 @@
 pub mod Places
 pub mod PrintedClocks
 pub mod PrintedReads
+pub mod SaidDates
 pub mod FastTexts
 pub mod FastSeconds
 pub mod NoSeconds

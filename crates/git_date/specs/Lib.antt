@@ -24,7 +24,7 @@ unfoldable pub use Approximate.Zones.{clock_at, shown_in, found_by, found_at, fi
 unfoldable pub use Approximate.Zones.{filled_time}
 unfoldable pub use Exact.Computing.{computing}
 unfoldable pub use Exact.Decimals.{with_sign, offset_from_decimal, offset_to_decimal}
-unfoldable pub use Exact.Fast.{is_date_mark, marked_date, fields_in, SaysFields, Says, has_few_digits}
+unfoldable pub use Exact.Fast.{is_date_mark, marked_date, fields_in, SaysFields, Says, SaysDate, has_few_digits}
 pub use Exact.Fast.{WritesTwo, WritesYear, WritesMonth, WritesWeekday, IsGitDate, WritesDate, WritesDay}
 pub use Exact.Fast.{WritesMonthYear, WritesMailDate, WritesMailDay, WritesNamedDay, WritesClock, WritesOffset}
 pub use Exact.Fast.{WritesTime, WritesStrictTime, WritesYearOffset, WritesYearTime, WritesSeconds, WritesRaw}

@@ -282,7 +282,8 @@ fn fields(date: Date, clock: Clock, offset: i16) -> Fields
 
 /// The fields of `2022-08-18 12:45:06 +0800`.
 #[tactic(auto, using(gix_date::proofs::Text::Ints::held, crate::proofs::Exact::FastTexts::made_says, crate::proofs::Exact::FastTexts::iso_says, crate::proofs::Exact::FastTexts::joined))]
-fn iso8601(text: &[u8]) -> Option<Fields>
+#[inline(always)]
+pub(crate) fn iso8601(text: &[u8]) -> Option<Fields>
     ensures { IfSome result (Spec.SaysFields text.now) }
 {
     let (front, back) = text.split_at(text.len().checked_sub(TIME_LEN)?);
@@ -293,7 +294,8 @@ fn iso8601(text: &[u8]) -> Option<Fields>
 
 /// The fields of `2022-08-18T12:45:06+08:00`.
 #[tactic(auto, using(gix_date::proofs::Text::Ints::held, crate::proofs::Exact::FastTexts::made_says, crate::proofs::Exact::FastTexts::strict_says, crate::proofs::Exact::FastTexts::joined))]
-fn iso8601_strict(text: &[u8]) -> Option<Fields>
+#[inline(always)]
+pub(crate) fn iso8601_strict(text: &[u8]) -> Option<Fields>
     ensures { IfSome result (Spec.SaysFields text.now) }
 {
     let (front, back) = text.split_at(text.len().checked_sub(TIME_LEN)?);
@@ -304,7 +306,8 @@ fn iso8601_strict(text: &[u8]) -> Option<Fields>
 
 /// The fields of `Thu, 18 Aug 2022 12:45:06 +0800`.
 #[tactic(auto, using(gix_date::proofs::Text::Ints::held, crate::proofs::Exact::FastTexts::made_says, crate::proofs::Exact::FastTexts::mail_says, crate::proofs::Exact::FastTexts::joined))]
-fn rfc2822(text: &[u8]) -> Option<Fields>
+#[inline(always)]
+pub(crate) fn rfc2822(text: &[u8]) -> Option<Fields>
     ensures { IfSome result (Spec.SaysFields text.now) }
 {
     let (front, back) = text.split_at(text.len().checked_sub(TIME_LEN)?);
@@ -315,25 +318,12 @@ fn rfc2822(text: &[u8]) -> Option<Fields>
 
 /// The fields of `Thu Aug 18 12:45:06 2022 +0800`.
 #[tactic(auto, using(gix_date::proofs::Text::Ints::held, crate::proofs::Exact::FastTexts::made_says, crate::proofs::Exact::FastTexts::default_says, crate::proofs::Exact::FastTexts::joined))]
-fn default(text: &[u8]) -> Option<Fields>
+#[inline(always)]
+pub(crate) fn default(text: &[u8]) -> Option<Fields>
     ensures { IfSome result (Spec.SaysFields text.now) }
 {
     let (front, back) = text.split_at(text.len().checked_sub(YEAR_TIME_LEN)?);
     let (month, day) = named_day(front)?;
     let (clock, year, offset) = year_time(back)?;
     Some(fields((year, month, day), clock, offset))
-}
-
-/// The fields of a date as Git prints it.
-pub(crate) fn printed_fields(text: &[u8]) -> Option<Fields>
-    ensures { IfSome result (Spec.SaysFields text.now) }
-{
-    match text.len() {
-        25 if text[10] == b'T' => iso8601_strict(text),
-        25 => iso8601(text),
-        29 => default(text),
-        30 | 31 if text[3] == b',' => rfc2822(text),
-        30 => default(text),
-        _ => None,
-    }
 }

@@ -5,7 +5,7 @@ ghost use Rattle.jiff.specs.Words.{plain_zone};
 
 use crate::clocks::is_instant;
 use crate::error::{DateError, Fault};
-use crate::fast::{offset, printed_fields, two};
+use crate::fast::{default, iso8601, iso8601_strict, offset, rfc2822, two};
 use crate::fields::Fields;
 use crate::fields::dates::{Now, exact_seconds};
 use crate::fields::digits::{Stepped, digits_rule};
@@ -208,6 +208,7 @@ fn printed_seconds(text: &[u8]) -> Option<Said>
 
 /// What the fields say that were read. Without a year, a month or a clock Git reads no date.
 #[tactic(auto, unfolding(crate::specs::fields_said))]
+#[inline(always)]
 fn fields_said(text: &[u8], read: Result<Reading, Fault>) -> Result<Said, DateError>
     ensures value { result ≡ Spec.fields_said text.now read }
     ensures instant { IfOk result Spec.SaidIsInstant }
@@ -262,22 +263,12 @@ fn string_said(now: Timestamp, text: &[u8]) -> Result<Said, DateError>
     }
 }
 
-/// What a text says, up to its first NUL. What is printed has none, so only other texts are searched for it.
+/// What a text says, up to its first NUL.
 #[tactic(auto, unfolding(crate::specs::said_by))]
 pub(crate) fn said_by(now: Timestamp, text: &[u8]) -> Result<Said, DateError>
     ensures value { result ≡ Spec.said_by (Spec.now_at now.nanosecond) text.now }
     ensures instant { IfOk result Spec.SaidIsInstant }
 {
-    if let Some(said) = printed_seconds(text) {
-        return Ok(said);
-    }
-    if let Some(fields) = printed_fields(text) {
-        let reading = Reading {
-            fields,
-            ..Reading::NOTHING
-        };
-        return fields_said(text, Ok(reading));
-    }
     let (string, nul) = up_to_nul(text);
     let said = string_said(now, string)?;
     Ok(Said {
@@ -322,6 +313,7 @@ pub fn parse_date(text: &[u8], now: Zoned<'_>) -> Result<ExactDate, DateError>
 
 /// [`parse_date`] at an instant in a zone. The zone is asked only for a text without an offset, so most texts cost less so.
 #[tactic(auto, using(crate::proofs::Exact::Places::places))]
+#[inline(always)]
 pub fn parse_date_at(
     text: &[u8],
     now: Timestamp,
@@ -330,7 +322,65 @@ pub fn parse_date_at(
     ensures date { Spec.DateOutcomeAt now.nanosecond (plain_zone zone.entry) text.now result }
     ensures places { Spec.HasPlacesIn text.now result }
 {
+    match printed_date(text) {
+        Some(date) => Ok(date),
+        None => date_by_tokens(text, now, zone),
+    }
+}
+
+/// What a text says, token by token. Apart, so that a date as Git prints it needs no stack for that.
+#[inline(never)]
+fn date_by_tokens(text: &[u8], now: Timestamp, zone: TimeZone<'_>) -> Result<ExactDate, DateError>
+    ensures { Spec.DateOutcomeAt now.nanosecond (plain_zone zone.entry) text.now result }
+{
     date_said(said_by(now, text), zone)
+}
+
+/// The date of a text as Git prints it, the same at each moment and in each zone. `None` means only that a text has another form, or is
+/// refused.
+fn printed_date(text: &[u8]) -> Option<ExactDate>
+    ensures { IfSome result (Spec.SaysDate text.now) }
+{
+    match text.len() {
+        25 if text[10] == b'T' => fields_date(text, iso8601_strict(text)?),
+        25 => fields_date(text, iso8601(text)?),
+        29 => fields_date(text, default(text)?),
+        30 | 31 if text[3] == b',' => fields_date(text, rfc2822(text)?),
+        30 => fields_date(text, default(text)?),
+        16 | 17 => said_date(text, printed_seconds(text)?),
+        _ => None,
+    }
+}
+
+/// The date of the fields that a text says, where they have an offset.
+#[inline(always)]
+fn fields_date(text: &[u8], fields: Fields) -> Option<ExactDate>
+    requires { Spec.SaysFields text.now fields }
+    ensures { IfSome result (Spec.SaysDate text.now) }
+{
+    let reading = Reading {
+        fields,
+        ..Reading::NOTHING
+    };
+    match fields_said(text, Ok(reading)) {
+        Ok(said) => said_date(text, said),
+        Err(_) => None,
+    }
+}
+
+/// The date of what a text says, where that has an offset.
+#[tactic(auto, using(crate::proofs::Exact::SaidDates::said_is_date))]
+#[inline(always)]
+fn said_date(text: &[u8], said: Said) -> Option<ExactDate>
+    requires says { Spec.Says text.now said }
+    requires instant { Spec.SaidIsInstant said }
+    ensures { IfSome result (Spec.SaysDate text.now) }
+{
+    let minutes = said.offset?;
+    match date_at(said, i32::from(minutes)) {
+        Ok(date) => Some(date),
+        Err(_) => None,
+    }
 }
 
 /// The date that a text says, in the zone if it says no offset.

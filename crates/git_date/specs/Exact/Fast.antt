@@ -13,9 +13,12 @@ use Rattle.git_date.specs.Rules.Groups.{slash}
 use Rattle.git_date.specs.Tokens.Numbers.{number}
 use Rattle.gix_date.specs.Text.Names.{day_name, month_name}
 use Rattle.gix_date.specs.Text.Numbers.{two_digits}
+use Rattle.git_date.specs.Exact.Outcome.{date_of}
 use Rattle.git_date.specs.Exact.Reading.{fields_said, said_by}
+use Rattle.jiff.specs.Types.{TimeZone}
 use Rattle.git_date.specs.declared.fields.dates.Now.{Now}
 use Rattle.git_date.specs.declared.fields.Fields.{Fields}
+use Rattle.git_date.specs.declared.reader.ExactDate.{ExactDate}
 use Rattle.git_date.specs.declared.reader.Said.{Said}
 
 -- two digits write a number in these bounds
@@ -188,6 +191,10 @@ SaysFields text f = (now : Now) → said_by now text ≡ fields_said text (Ok (r
 -- a text says this, whatever the moment
 abbrev pub Says : List ℕ → Said → Type 0
 Says text said = (now : Now) → said_by now text ≡ Ok said
+
+-- a text says this date, whatever the moment and the zone
+abbrev pub SaysDate : List ℕ → ExactDate → Type 0
+SaysDate text date = (now : Now) (tz : TimeZone) → date_of tz (said_by now text) ≡ Ok date
 
 -- a text has fewer than three digits, and no colon: it says no clock
 abbrev pub has_few_digits : List ℕ → Bool

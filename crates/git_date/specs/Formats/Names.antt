@@ -1,5 +1,5 @@
 -- The names that a clock shows, and their letter case.
-use Rattle.std.specs.Prelude.{ℕ, ◌-◌, nat_lt, get_or, List, [], ◌∷◌, map, codes, if◌then◌else◌}
+use Rattle.std.specs.Prelude.{ℕ, nat_lt, List, [], ◌∷◌, map, codes, if◌then◌else◌}
 use Rattle.std.specs.Char.{to_ascii_uppercase, to_ascii_lowercase}
 use Rattle.gix_date.specs.Fields.Layout.{LocalTime}
 use Rattle.gix_date.specs.Text.Characters.{newline}

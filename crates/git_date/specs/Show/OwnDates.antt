@@ -1,5 +1,5 @@
 -- Dates as Git shows an identity line's own: by the clock of the line, with the offset as the line writes it.
-use Rattle.std.specs.Prelude.{ℕ, ◌/◌, ◌%◌, nat_lt, List, [], ◌∷◌, ◌++◌, Bool, true, false, ◌||◌, ℤ, pos, neg_ℤ, unsigned_abs, if◌then◌else◌}
+use Rattle.std.specs.Prelude.{ℕ, List, [], ◌∷◌, ◌++◌, Bool, true, false, ◌||◌, ℤ, pos, neg_ℤ, if◌then◌else◌}
 use Rattle.std.specs.Prelude.{Option, Some, None, Result, Ok, Err}
 use Rattle.std.specs.Fmt.{decimal}
 use Rattle.std.specs.Int.Signed.{lt_z}

@@ -139,6 +139,7 @@ pub(crate) fn seconds_after(start: i64, day: Option<u8>, hour: u8, minute: u8, s
 
 /// The seconds that a clock has counted when it shows these fields, where all but the day are known.
 #[tactic(auto, unfolding(crate::specs::exact_seconds))]
+#[inline(always)]
 pub(crate) fn exact_seconds(fields: Fields) -> Option<i64>
     ensures value { result ≡ Spec.exact_seconds fields }
     ensures small { IfSome result (λ s. IsBetween (neg_ℤ (pos (10 ^ 16))) (pos (10 ^ 16)) s) }
