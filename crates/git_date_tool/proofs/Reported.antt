@@ -5,7 +5,7 @@ use Rattle.gix_date.specs.Text.Characters.{newline}
 use Rattle.gix_date.specs.Devices.StreamState.{StreamState}
 use Rattle.streams.specs.Messages.{WritesMessage, Reports, fault_message}
 use Rattle.streams.specs.declared.error.ToolError.{ToolError}
-use Rattle.streams.specs.Changes.{Change, change}
+use Rattle.streams.specs.Changes.{change}
 use Rattle.git_date_tool.specs.Program.{Says, message_of}
 use Rattle.git_date_tool.specs.CommandLine.Wrong.{about, about_any, place_digits, wrong_lead, wrong_place, wrong_subject, wrong_text}
 use Rattle.git_date_tool.specs.CommandLine.Wrong.{wrong_words}

@@ -36,9 +36,10 @@ unfoldable pub use Program.{IsMomentIn, IsNoMoment, IsNoQuery, numbered_of, Runs
 unfoldable pub use Program.{StartsNot, EndsRequest, EndsCommand}
 pub use Program.{IsQuery, Executes, ShowsUsage}
 unfoldable pub use Runs.{output, AreReplies, reply_lines, next_number, number_after, Warns, first_turn, first_verdict, verdict_of}
-unfoldable pub use Runs.{both, verdict_on, Serves, RunsOver, AnswersLines, result_of, RunsThrough, turn_of, output_of, AnswersTo}
-pub use Runs.{Output, Turn, Answered, Broken, BreaksAmong, AnswersAll}
-pub use Served.{no_lines, more_lines}
+unfoldable pub use Runs.{both, verdict_on, Comes, Written, RunsOver, result_of, ended_by, RunsThrough, turn_of, unsent_of}
+unfoldable pub use Runs.{SendsReplies, ComesTo, AnswersTo}
+pub use Runs.{Output, Turn, Answered, CutOff, LacksMemory, AnswersAll}
+pub use Served.{both-first, no_lines, more_lines}
 unfoldable pub use Zones.Files.{no_zone_of}
 unfoldable pub use Zones.Zones.{IsFixedAt, IsOffsetZone, IsFileZone, IsNamedZone, IsTextZone, IsAskedZone, IsName, MayLackText}
 unfoldable pub use Zones.Zones.{NeedsSystem, IsTextOf, IsSaidSource, IsFileSource, IsNamedSource, IsFixedSource, IsTextSource}

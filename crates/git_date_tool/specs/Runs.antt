@@ -1,10 +1,13 @@
 -- What answering texts comes to.
-use Rattle.std.specs.Prelude.{◌≡◌, ℕ, Bool, true, ◌&&◌, ◌==◌, List, [], ◌∷◌, ◌++◌, ◌+◌, if◌then◌else◌, Some, Result, Ok, Err}
+use Rattle.std.specs.Prelude.{◌≡◌, ℕ, true, ◌&&◌, ◌==◌, List, [], ◌∷◌, ◌++◌, ◌+◌, if◌then◌else◌, Option, Some, Result, Ok, Err}
 use Rattle.std.specs.List.{flat_map, list_all}
+use Rattle.std.specs.Option.{option_to_list}
 use Rattle.gix_date.specs.Devices.StreamState.{StreamState, Takes, TakesProperPrefix}
 use Rattle.streams.specs.Lines.{with_newline}
 use Rattle.streams.specs.Messages.{Reports}
-use Rattle.streams.specs.Changes.{Change, change, IsUntouched}
+use Rattle.streams.specs.Changes.{Change, change}
+use Rattle.streams.specs.Outbox as outboxes
+use Rattle.streams.specs.Outbox.{waiting}
 use Rattle.streams.specs.Serving.{Answer, Ran, Service, fault_of}
 use Rattle.streams.specs.declared.error.ToolError.{ToolError}
 use Rattle.streams.specs.declared.error.ToolError.TheVariants as errors
@@ -76,79 +79,94 @@ abbrev pub verdict_on : List Reply → Verdict
 verdict_on replies =
     record { all_read = list_all (λ reply. reply.is_date) replies; all_clear = list_all (λ reply. reply.is_clear) replies }
 
--- Each of some texts was answered, in order: by these lines, and by warnings beside them.
-pub record Answered (turn : Turn) (texts : List (List ℕ)) (out : Output) (verdict : Verdict) : Type 0 where
+-- Each of some texts was answered, in order: this was done with the lines of their replies, and each warning was said.
+pub record Answered (turn : Turn) (texts : List (List ℕ)) (Wrote : List ℕ → Type 0) (telling : Change) (verdict : Verdict) : Type 0 where
   pub replies : List Reply
   pub each : AreReplies turn.query texts replies
-  pub wrote : Takes out.writing.old out.writing.new (reply_lines replies)
-  pub warned : Warns turn.query turn.number out.telling.old out.telling.new replies
+  pub wrote : Wrote (reply_lines replies)
+  pub warned : Warns turn.query turn.number telling.old telling.new replies
   pub verdict_is : verdict ≡ verdict_on replies
 
--- What answering the text with this number comes to: a line, and a warning beside it. Without memory nothing is written or said.
-unfoldable pub Serves : Query → ℕ → List ℕ → Output → Result Verdict ToolError → Type 0
-Serves query number text out (Ok verdict) =
-    (reply : Reply) × IsReply query text reply × Takes out.writing.old out.writing.new (with_newline reply.text)
-    × Reports out.telling (warning_line query.numbered number reply.warning) × (verdict ≡ verdict_of reply)
-Serves query number text out (Err (errors.Write kind)) =
-    (reply : Reply) × IsReply query text reply × TakesProperPrefix out.writing.old out.writing.new (with_newline reply.text)
-    × (out.writing.new.fault ≡ Some kind) × IsUntouched out.telling
-Serves query number text out (Err errors.Memory) = IsUntouched out.writing × IsUntouched out.telling
-Serves query number text out (Err _) = ⊥
+-- The writer refused while the first of some texts were answered, and this was done with the lines of their replies. Each warning was
+-- said, but perhaps that of the last.
+pub record CutOff (turn : Turn) (texts : List (List ℕ)) (Wrote : List ℕ → Type 0) (telling : Change) : Type 0 where
+  pub front : List (List ℕ)
+  pub beyond : List (List ℕ)
+  pub whole : texts ≡ front ++ beyond
+  pub replies : List Reply
+  pub last : Option Reply
+  pub each : AreReplies turn.query front (replies ++ option_to_list last)
+  pub wrote : Wrote (reply_lines (replies ++ option_to_list last))
+  pub warned : Warns turn.query turn.number telling.old telling.new replies
 
--- Some texts were answered, and then answering this one had a fault.
-pub record Broken (turn : Turn) (texts : List (List ℕ)) (text : List ℕ) (out : Output) (fault : ToolError) : Type 0 where
-  pub written : StreamState
-  pub told : StreamState
-  pub verdict : Verdict
-  pub before : Answered turn texts (output (change out.writing.old written) (change out.telling.old told)) verdict
-  pub at : Serves turn.query (number_after turn.number texts) text (output (change written out.writing.new) (change told out.telling.new))
-      (Err fault)
-
--- a fault came at one of the texts
-pub record BreaksAmong (turn : Turn) (texts : List (List ℕ)) (out : Output) (fault : ToolError) : Type 0 where
+-- There was no memory to answer one of some texts, and each before it was answered.
+pub record LacksMemory (turn : Turn) (texts : List (List ℕ)) (Wrote : List ℕ → Type 0) (telling : Change) : Type 0 where
   pub front : List (List ℕ)
   pub text : List ℕ
   pub beyond : List (List ℕ)
   pub whole : texts ≡ front ++ text ∷ beyond
-  pub broken : Broken turn front text out fault
+  pub verdict : Verdict
+  pub before : Answered turn front Wrote telling verdict
 
--- What a run over some texts comes to: each was answered, or one had a fault.
+-- what answering some texts comes to, where this was done with the lines of replies by how it ended
+abbrev pub Comes : Turn → List (List ℕ) → (Answer → List ℕ → Type 0) → Change → Result Verdict ToolError → Type 0
+Comes turn texts Wrote telling (Ok verdict) = Answered turn texts (Wrote (Ok tt)) telling verdict
+Comes turn texts Wrote telling (Err (errors.Write kind)) = CutOff turn texts (Wrote (Err (errors.Write kind))) telling
+Comes turn texts Wrote telling (Err errors.Memory) = LacksMemory turn texts (Wrote (Err errors.Memory)) telling
+Comes turn texts Wrote telling (Err _) = ⊥
+
+-- a text was written, or the writer refused, and a proper prefix of it was
+abbrev pub Written : Change → Answer → List ℕ → Type 0
+Written writing (Err (errors.Write kind)) text = TakesProperPrefix writing.old writing.new text × (writing.new.fault ≡ Some kind)
+Written writing _ text = Takes writing.old writing.new text
+
+-- What a run over some texts comes to: each was answered, or it had a fault at one.
 abbrev pub RunsOver : Query → List (List ℕ) → Output → Result Verdict ToolError → Type 0
-RunsOver query texts out (Ok verdict) = Answered (first_turn query) texts out verdict
-RunsOver query texts out (Err fault) = BreaksAmong (first_turn query) texts out fault
-
--- what answering the lines that are due comes to, by the answer of a server
-abbrev pub AnswersLines : Query → Output → Verdict → List (List ℕ) → Answer → Type 0
-AnswersLines query out verdict lines (Ok _) = Answered (first_turn query) lines out verdict
-AnswersLines query out verdict lines (Err fault) = BreaksAmong (first_turn query) lines out fault
+RunsOver query texts out result = Comes (first_turn query) texts (Written out.writing) out.telling result
 
 -- the end of a run over lines
 abbrev pub result_of : Verdict → Result ℕ Stop → Result Verdict ToolError
 result_of verdict (Ok count) = Ok verdict
 result_of verdict (Err stop) = Err (fault_of stop)
 
+-- how answering ended, with that verdict
+abbrev pub ended_by : Verdict → Answer → Result Verdict ToolError
+ended_by verdict (Ok _) = Ok verdict
+ended_by verdict (Err fault) = Err fault
+
 -- What a run over the lines of a source comes to: those that are due were answered.
 unfoldable pub RunsThrough : Query → Change → Output → Result Verdict ToolError → Type 0
 RunsThrough query reading out result =
-    (ended : Result ℕ Stop) × (verdict : Verdict) × Ran (AnswersLines query out verdict) (Unit {0}) MAX_LINES reading ended
+    (ended : Result ℕ Stop) × (verdict : Verdict)
+    × Ran (λ lines answer. RunsOver query lines out (ended_by verdict answer)) (Unit {0}) MAX_LINES reading ended
     × (result ≡ result_of verdict ended)
 
 -- the next turn of one that answers
 abbrev pub turn_of : Answering → Turn
 turn_of answering = record { query = answering.query; number = answering.number }
 
--- what was done with its sinks between two services
-abbrev pub output_of : Service Answering → Service Answering → Output
-output_of old new = output (change old.out new.out) (change old.told new.told)
+-- what is known of the sink of one that answers, and what waits to be sent to it
+abbrev pub unsent_of : Service Answering → outboxes.Output
+unsent_of s = outboxes.output s.server.outbox s.out
+
+-- what was done with the lines of replies between two services, by how answering ended; without memory none waits
+abbrev pub SendsReplies : Service Answering → Service Answering → Answer → List ℕ → Type 0
+SendsReplies old new (Ok _) text = outboxes.Puts (unsent_of old) (unsent_of new) text
+SendsReplies old new (Err (errors.Write kind)) text = outboxes.PutsProperPrefix (unsent_of old) (unsent_of new) text kind
+SendsReplies old new (Err _) text = outboxes.Puts (unsent_of old) (unsent_of new) text × (waiting new.server.outbox ≡ [])
+
+-- what answering some lines comes to, where these have that verdict
+abbrev pub ComesTo : Service Answering → Service Answering → List (List ℕ) → Result Verdict ToolError → Type 0
+ComesTo old new lines result = Comes (turn_of old.server) lines (SendsReplies old new) (change old.told new.told) result
 
 -- all of some lines were answered, and that is known then
 pub record AnswersAll (old new : Service Answering) (lines : List (List ℕ)) : Type 0 where
   pub verdict : Verdict
-  pub answered : Answered (turn_of old.server) lines (output_of old new) verdict
+  pub answered : ComesTo old new lines (Ok verdict)
   pub turn : turn_of new.server ≡ record { query = old.server.query; number = number_after old.server.number lines }
   pub all : new.server.verdict ≡ both old.server.verdict verdict
 
 -- what answering some lines comes to
 abbrev pub AnswersTo : Service Answering → Service Answering → List (List ℕ) → Answer → Type 0
 AnswersTo old new lines (Ok _) = AnswersAll old new lines
-AnswersTo old new lines (Err fault) = BreaksAmong (turn_of old.server) lines (output_of old new) fault
+AnswersTo old new lines (Err fault) = ComesTo old new lines (Err fault)

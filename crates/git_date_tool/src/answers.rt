@@ -1,5 +1,5 @@
 //! What a text is answered by.
-ghost use Rattle.std.specs.Prelude.{◌≡◌, IfOk, option_map};
+ghost use Rattle.std.specs.Prelude.{◌≡◌, [], IfOk, IsSome, OnOk, option_map};
 ghost use Rattle.git_date_tool.specs as Spec;
 ghost use Rattle.streams.specs as Streams;
 ghost use Rattle.std.specs.Result.{result_map_both};
@@ -22,7 +22,7 @@ use gix_date::{
 };
 use std::alloc::{AllocError, Global};
 use std::io;
-use streams::put_pieces;
+use streams::Outbox;
 
 /// What is asked of each text.
 #[derive(Clone, Copy)]
@@ -66,14 +66,22 @@ impl Answer<'_> {
         }
     }
 
-    /// Writes its line.
-    pub(crate) fn put<W: Sink>(&self, out: &mut W) -> Result<(), io::ErrorKind>
-        ensures { Streams.IsWritten (Streams.change (W.known out.old) (W.known out.new))
+    /// Puts its line after those that wait. Where something is to be said beside it, all are sent, so that it stands before its warning.
+    #[tactic(auto, using(crate::proofs::Answering::put_and_sent))]
+    pub(crate) fn put<W: Sink>(&self, outbox: &mut Outbox, out: &mut W) -> Result<(), io::ErrorKind>
+        ensures sends { Streams.Sends (Streams.output outbox.old (W.known out.old)) (Streams.output outbox.new (W.known out.new))
             (Streams.with_newline (Spec.answer_reply self.now).text) result }
+        ensures before_warning { IsSome (Spec.answer_reply self.now).warning → OnOk result (Streams.waiting outbox.new ≡ []) }
     {
         match self {
-            Answer::Date(line, _) => put_pieces(&[line.as_str(), "\n"], out),
-            Answer::Refused(refusal) => put_refusal(*refusal, out),
+            Answer::Date(line, warning) => {
+                outbox.push(&[line.as_str(), "\n"], out)?;
+                if warning.is_empty() {
+                    return Ok(());
+                }
+                outbox.send(out)
+            }
+            Answer::Refused(refusal) => put_refusal(*refusal, outbox, out),
         }
     }
 
@@ -89,17 +97,21 @@ impl Answer<'_> {
     }
 }
 
-/// Writes the line of a refusal.
-fn put_refusal<W: Sink>(refusal: Refusal, out: &mut W) -> Result<(), io::ErrorKind>
-    ensures { Streams.IsWritten (Streams.change (W.known out.old) (W.known out.new))
+/// Puts the line of a refusal after those that wait.
+fn put_refusal<W: Sink>(
+    refusal: Refusal,
+    outbox: &mut Outbox,
+    out: &mut W,
+) -> Result<(), io::ErrorKind>
+    ensures { Streams.Sends (Streams.output outbox.old (W.known out.old)) (Streams.output outbox.new (W.known out.new))
         (Streams.with_newline (Spec.refusal_text refusal)) result }
 {
     match refusal.place() {
         Some(place) => {
             let mut digits = itoa::Buffer::new();
-            put_pieces(&[refusal.name(), " ", digits.format(place), "\n"], out)
+            outbox.push(&[refusal.name(), " ", digits.format(place), "\n"], out)
         }
-        None => put_pieces(&[refusal.name(), "\n"], out),
+        None => outbox.push(&[refusal.name(), "\n"], out),
     }
 }
 

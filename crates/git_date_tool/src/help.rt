@@ -12,7 +12,7 @@ pub(crate) const HELP: &str =
     r#"usage: git_date [--now NOW] [--zone ZONE] [--as READER] [--show MODE] [--strict|--lenient] [--] [TEXT]...
 
 Reads dates as Git does. Answers each text by a line: the date, or `error`, the refusal's name and its place in bytes. Quote a text of
-words. Without a text each line of standard input is one, answered before the next is read; where it is not UTF-8, careful, gix and
+words. Without a text each line of standard input is one, answered before more is read; where it is not UTF-8, careful, gix and
 header answer `not text`.
 
     $ git_date --now @1251660000 --zone +0000 'last friday at noon' '5 mins ago' friday

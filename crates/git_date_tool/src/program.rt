@@ -136,7 +136,9 @@ fn run<'w, R: Source, W: Sink, M: Sink>(
     end_of(request.texts, ran)
 }
 
-/// Answers the texts, or the lines of the reader if there is no text.
+/// Answers the texts, or the lines of the reader if there is no text. Apart, so that its outbox and the tables of a zone's file, which was
+/// read before, do not both lie on the stack.
+#[inline(never)]
 fn run_as<R: Source, W: Sink, M: Sink>(
     alloc: Global,
     texts: &[String],

@@ -1,12 +1,12 @@
 //! Runs over the words of a command line, and over the lines of a stream.
-ghost use Rattle.std.specs.Prelude.{◌≡◌, map, string_bytes};
+ghost use Rattle.std.specs.Prelude.{◌≡◌, [], map, string_bytes};
 ghost use Rattle.git_date_tool.specs as Spec;
 ghost use Rattle.streams.specs as Streams;
 
-use crate::answers::{Query, answer_line};
+use crate::answers::{Answer, Query, answer_line};
 use gix_date::device::{Sink, Source};
 use std::alloc::{AllocError, Global};
-use streams::{MAX_LINES, Server, ToolError, serve_lines};
+use streams::{MAX_LINES, Outbox, Server, ToolError, serve_lines};
 
 /// The last number that a text has in warnings.
 const LAST_NUMBER: u64 = u64::MAX;
@@ -29,10 +29,13 @@ pub(crate) fn run_over<W: Sink, M: Sink>(
             return Err(fault);
         }
     }
-    Ok(answering.verdict)
+    match answering.settle(writer) {
+        Ok(()) => Ok(answering.verdict),
+        Err(fault) => Err(fault),
+    }
 }
 
-/// Answers each line of a reader by a line, before it reads more.
+/// Answers each line of a reader by a line. What was answered is written before more is read.
 #[tactic(auto, using(crate::proofs::Answering::run_ended, crate::proofs::Answering::run_stopped))]
 pub(crate) fn run_through<R: Source, W: Sink, M: Sink>(
     alloc: Global,
@@ -53,7 +56,7 @@ pub(crate) fn run_through<R: Source, W: Sink, M: Sink>(
 }
 
 /// Answers texts, one after the other.
-#[derive(Clone, Copy)]
+#[derive(Drop)]
 struct Answering<'q> {
     alloc: Global,
     /// What is asked of each text.
@@ -62,6 +65,8 @@ struct Answering<'q> {
     number: u64,
     /// What is known of those that were answered.
     verdict: Verdict,
+    /// The lines that are unsent.
+    outbox: Outbox,
 }
 
 impl<'q> Answering<'q> {
@@ -69,12 +74,14 @@ impl<'q> Answering<'q> {
     fn new(alloc: Global, query: Query<'q>) -> Answering<'q>
         ensures turn { Spec.turn_of result ≡ Spec.first_turn query.entry }
         ensures verdict { result.verdict ≡ Spec.first_verdict }
+        ensures unsent { Streams.waiting result.outbox ≡ [] }
     {
         Answering {
             alloc,
             query,
             number: 1,
             verdict: Verdict::first(),
+            outbox: Outbox::new(),
         }
     }
 }
@@ -82,24 +89,36 @@ impl<'q> Answering<'q> {
 impl<'q> Server for Answering<'q> {
     ghost serves = { Spec.AnswersTo };
 
-    ghost is_settled = { λ s. Unit {0} };
+    ghost is_settled = { λ s. Streams.waiting s.outbox ≡ [] };
 
-    #[tactic(auto, using(crate::proofs::Answering::served, crate::proofs::Answering::unserved))]
+    #[tactic(auto, using(crate::proofs::Answering::served))]
     fn serve<W: Sink, M: Sink>(
         &mut self,
         line: &[u8],
         out: &mut W,
         messages: &mut M,
     ) -> Result<(), ToolError> {
-        let one = answer(self.alloc, &self.query, self.number, line, out, messages)?;
+        let Ok(answer) = answer_line(self.alloc, &self.query, line) else {
+            if let Err(fault) = self.settle(out) {
+                return Err(fault);
+            }
+            return Err(ToolError::Memory);
+        };
+        if let Err(kind) = answer.put(&mut self.outbox, out) {
+            return Err(ToolError::Write(kind));
+        }
+        answer.warn(self.query.numbered, self.number, messages);
         self.number = next_number(self.number);
-        self.verdict = self.verdict.with(one);
+        self.verdict = self.verdict.with(verdict_of(&answer));
         Ok(())
     }
 
     #[tactic(auto, using(crate::proofs::Answering::settled))]
-    fn settle<W: Sink>(&mut self, _out: &mut W) -> Result<(), ToolError> {
-        Ok(())
+    fn settle<W: Sink>(&mut self, out: &mut W) -> Result<(), ToolError> {
+        match self.outbox.send(out) {
+            Ok(()) => Ok(()),
+            Err(kind) => Err(ToolError::Write(kind)),
+        }
     }
 
     ghost stays = { Spec.no_lines };
@@ -149,26 +168,12 @@ impl Verdict {
     }
 }
 
-/// Answers the text with this number by a line, and by a warning where one is due.
-#[tactic(auto, using(crate::proofs::Answering::answered, crate::proofs::Answering::unwritten, crate::proofs::Answering::unanswered))]
-fn answer<W: Sink, M: Sink>(
-    alloc: Global,
-    query: &Query<'_>,
-    number: u64,
-    text: &[u8],
-    writer: &mut W,
-    messages: &mut M,
-) -> Result<Verdict, ToolError>
-    ensures { Spec.Serves query.entry.now number text.now (Spec.output (Streams.change (W.known writer.old) (W.known writer.new))
-        (Streams.change (M.known messages.old) (M.known messages.new))) result }
+/// What is known of a text with this answer.
+fn verdict_of(answer: &Answer<'_>) -> Verdict
+    ensures { result ≡ Spec.verdict_of (Spec.answer_reply answer.now) }
 {
-    let Ok(answer) = answer_line(alloc, query, text) else {
-        return Err(ToolError::Memory);
-    };
-    answer.put(writer).map_err(ToolError::Write)?;
-    answer.warn(query.numbered, number, messages);
-    Ok(Verdict {
+    Verdict {
         all_read: answer.is_date(),
         all_clear: answer.is_clear(),
-    })
+    }
 }

@@ -1,5 +1,5 @@
 -- The lines of an input judged by a server.
-use Rattle.std.proofs.Common.{◌≡◌, ◌∙◌, ◌&&◌, ℕ, List, [], ◌∷◌, ap, refl, sym, subst, append-nil, Bool, true, Ok, Err, Result}
+use Rattle.std.proofs.Common.{◌≡◌, ◌∙◌, ◌&&◌, ℕ, List, [], ◌∷◌, ap, refl, sym, subst, append-nil, true, Ok, Err, Result}
 use Rattle.std.specs.List.{list_all}
 use Rattle.gix_date.specs.Devices.StreamState.{StreamState, Takes, TakesProperPrefix}
 use Rattle.streams.specs.Changes.{Change, change}

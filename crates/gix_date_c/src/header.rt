@@ -9,6 +9,7 @@ use crate::values::text::utf8_text;
 use crate::values::time::{CTime, load_time, store_time};
 use gix_date::bytes::text_of;
 use gix_date::{Time, is_canonical_header, parse_header};
+use streams::usual::is_usual_header;
 
 /// The time of a commit header, read leniently.
 #[unsafe(no_mangle)]
@@ -43,9 +44,16 @@ pub extern "C" fn gix_date_is_canonical_header(text: &[u8]) -> bool
     is_canonical(text)
 }
 
-/// Whether bytes come back when they are read as a header and written.
-#[tactic(auto, using(crate::proofs::Printed::no_header))]
+/// Whether bytes come back when they are read as a header and written. Of nearly all headers the first bytes say that.
+#[inline(always)]
 pub(crate) fn is_canonical(text: &[u8]) -> bool
+    ensures { result ≡ GixDate.is_canonical_header text.now }
+{
+    is_usual_header(text) || comes_back(text)
+}
+
+#[tactic(auto, using(crate::proofs::Printed::no_header))]
+fn comes_back(text: &[u8]) -> bool
     ensures { result ≡ GixDate.is_canonical_header text.now }
 {
     match text_of(text) {

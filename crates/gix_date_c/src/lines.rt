@@ -16,6 +16,7 @@ use crate::lines::reader::{LineReader, line_reader};
 use crate::moment::CInstant;
 use crate::zone::ShownZone;
 use streams::first_line;
+use streams::usual::canonical_line;
 
 /// Reads each line of a block by the reader of a number. What is relative to a moment is refused.
 #[unsafe(no_mangle)]
@@ -70,8 +71,8 @@ pub extern "C" fn gix_date_check_lines(
     let room = canonical.len();
     let mut left = block;
     let mut done = 0;
-    'lines: while let Some((line, after)) = next_line(left, done, room) {
-        canonical[done] = u8::from(is_canonical(line));
+    'lines: while let Some((comes_back, after)) = next_checked(left, done, room) {
+        canonical[done] = u8::from(comes_back);
         left = after;
         done += 1;
     }
@@ -115,4 +116,32 @@ fn next_line(left: &[u8], done: usize, room: usize) -> Option<(&[u8], &[u8])>
         return None;
     }
     first_line(left)
+}
+
+/// Whether the next line comes back, and the bytes after it, where there is one, and room for it.
+#[inline(always)]
+fn next_checked(left: &[u8], done: usize, room: usize) -> Option<(bool, &[u8])>
+    requires { done ≤ room }
+    ensures { MatchOption result ((left.now ≡ []) ⊎ (done ≡ room))
+        (λ found. (done < room) × Spec.IsChecked left.now found.0 found.1.now) }
+{
+    if done == room {
+        return None;
+    }
+    first_checked(left)
+}
+
+/// Whether the first line comes back, and the bytes after it. Of nearly all lines their first bytes say that.
+#[tactic(auto, using(crate::proofs::Blocks::Steps::canonical_checked))]
+#[inline(always)]
+fn first_checked(bytes: &[u8]) -> Option<(bool, &[u8])>
+    ensures { MatchOption result (bytes.now ≡ []) (λ found. Spec.IsChecked bytes.now found.0 found.1.now) }
+{
+    if let Some(after) = canonical_line(bytes) {
+        return Some((true, after));
+    }
+    match first_line(bytes) {
+        Some((line, after)) => Some((is_canonical(line), after)),
+        None => None,
+    }
 }

@@ -1,6 +1,6 @@
 -- Lines at the front of bytes that are headers.
 use Rattle.std.proofs.Common.{◌≡◌, ◌≢◌, ◌∙◌, ℕ, ◌+◌, ◌≤◌, Bool, true, false, List, [], ◌∷◌, ◌++◌, length, drop, get_or, refl, sym, ap}
-use Rattle.std.proofs.Common.{append_assoc, length-append, arith, IsAscii, codes}
+use Rattle.std.proofs.Common.{append_assoc, append-nil, length-append, arith, IsAscii, codes}
 use Rattle.std.proofs.lemmas.Bool.{and_parts}
 use Rattle.std.proofs.lemmas.Bool.Decides.{nat_tests}
 use Rattle.std.proofs.lemmas.List.Elements.{All-append, All-cons, All-nil}
@@ -9,11 +9,12 @@ use Rattle.std.proofs.Math.Seq.{take-append_seam, drop-append_seam}
 use Rattle.std.specs.Char.{is_ascii_digit}
 use Rattle.std.specs.List.{list_all}
 use Rattle.std.specs.Prelude.{◌==◌, ◌&&◌, ◌||◌, not, nat_lt}
+use Rattle.gix_date.specs.Header.Canonical.{is_canonical_header}
 use Rattle.gix_date.specs.Header.CanonicalBytes.{are_usual_seconds, are_hours_and_minutes, is_usual_offset}
 use Rattle.gix_date.specs.Text.Characters.{newline, space, plus, minus, digit_zero}
 use Rattle.gix_date.proofs.Fast.CanonicalBytes.{usual_canonical}
 use Rattle.streams.specs.Lines.{IsLine, with_newline}
-use Rattle.streams.specs.Usual.{BeginsWithHeader, BeginsWithUnknown}
+use Rattle.streams.specs.Usual.{BeginsWithHeader, BeginsWithUnknown, HasHeaderInFront}
 
 -- digits, few and the first no zero, are seconds
 pub few_are_seconds : (ds : List ℕ) → 1 ≤ length ds → length ds ≤ 16 → list_all is_ascii_digit ds ≡ true → get_or ds 0 0 ≢ 48
@@ -77,22 +78,47 @@ seven (x ∷ s ∷ a ∷ b ∷ []) h = absurd (omega arith)
 seven (x ∷ s ∷ a ∷ b ∷ c ∷ []) h = absurd (omega arith)
 seven (x ∷ s ∷ a ∷ b ∷ c ∷ d ∷ []) h = absurd (omega arith)
 
--- seconds, an offset and a newline are a line at the front
-pub header-line : (bytes seconds after : List ℕ) (x s a b c d : ℕ) → bytes ≡ seconds ++ (x ∷ s ∷ a ∷ b ∷ c ∷ d ∷ newline ∷ after)
+-- six bytes, and those after them
+pub six : (r : List ℕ) → 6 ≤ length r
+    → r ≡ get_or r 0 0 ∷ get_or r 1 0 ∷ get_or r 2 0 ∷ get_or r 3 0 ∷ get_or r 4 0 ∷ get_or r 5 0 ∷ drop 6 r
+six (x ∷ s ∷ a ∷ b ∷ c ∷ d ∷ r) h = refl
+six [] h = absurd (omega arith)
+six (x ∷ []) h = absurd (omega arith)
+six (x ∷ s ∷ []) h = absurd (omega arith)
+six (x ∷ s ∷ a ∷ []) h = absurd (omega arith)
+six (x ∷ s ∷ a ∷ b ∷ []) h = absurd (omega arith)
+six (x ∷ s ∷ a ∷ b ∷ c ∷ []) h = absurd (omega arith)
+
+-- seconds and an offset are a header in front
+pub header-in_front : (bytes seconds after : List ℕ) (x s a b c d : ℕ) → bytes ≡ seconds ++ (x ∷ s ∷ a ∷ b ∷ c ∷ d ∷ after)
     → are_usual_seconds seconds ≡ true
-    → length seconds ≤ 16 → is_usual_offset (x ∷ s ∷ a ∷ b ∷ c ∷ d ∷ []) ≡ true → BeginsWithHeader bytes after
-header-line bytes seconds after x s a b c d e h few k =
+    → length seconds ≤ 16 → is_usual_offset (x ∷ s ∷ a ∷ b ∷ c ∷ d ∷ []) ≡ true → HasHeaderInFront bytes after
+header-in_front bytes seconds after x s a b c d e h few k =
     let offset = x ∷ s ∷ a ∷ b ∷ c ∷ d ∷ [] in
-    let line = seconds ++ offset in
-    let cut = append_assoc line (newline ∷ []) after ∙ append_assoc seconds offset (newline ∷ after) in
+    let header = seconds ++ offset in
     record {
-      line = line;
-      whole = e ∙ sym cut;
+      header = header;
+      whole = e ∙ sym (append_assoc seconds offset after);
       is_line = All-append (λ n. n ≢ newline) seconds offset (seconds-line seconds h) (offset-line x s a b c d k);
-      is_canonical = usual_canonical line seconds offset (length seconds) (sym (take-append_seam seconds offset))
+      is_canonical = usual_canonical header seconds offset (length seconds) (sym (take-append_seam seconds offset))
           (sym (drop-append_seam seconds offset)) h k;
       is_short = omega (arith, length-append seconds offset, few);
     }
+
+-- such a header before a newline is a line
+pub header_is_line : (bytes rest after : List ℕ) → HasHeaderInFront bytes rest → rest ≡ newline ∷ after → BeginsWithHeader bytes after
+header_is_line bytes rest after h e = record {
+  line = h.header;
+  whole = h.whole ∙ ap (λ xs. h.header ++ xs) e ∙ sym (append_assoc h.header (newline ∷ []) after);
+  is_line = h.is_line;
+  is_canonical = h.is_canonical;
+  is_short = h.is_short;
+}
+
+-- and where nothing stands after it, it is all
+pub header_is_all : (bytes rest : List ℕ) → HasHeaderInFront bytes rest → rest ≡ [] → is_canonical_header bytes ≡ true
+header_is_all bytes rest h e =
+    ap is_canonical_header (h.whole ∙ ap (λ xs. h.header ++ xs) e ∙ append-nil h.header) ∙ h.is_canonical
 
 zero-line : IsLine (codes " -0000")
 zero-line =

@@ -1,13 +1,13 @@
 -- What a program says, as one line.
-use Rattle.std.proofs.Common.{arith, ◌≡◌, ◌∙◌, ℕ, List, [], ◌∷◌, ◌++◌, sym, ap, subst, append_assoc, append-nil, Result, Ok, Err, Bool}
-use Rattle.std.proofs.Common.{true, false}
+use Rattle.std.proofs.Common.{arith, ◌≡◌, ℕ, List, [], ◌∷◌, ◌++◌, sym, ap, append_assoc, append-nil, Result, Ok, Err}
+use Rattle.std.proofs.Common.{false}
 use Rattle.std.proofs.lemmas.Bool.Decides.{nat_tests}
 use Rattle.std.proofs.lemmas.Grind.{common_steps}
 use Rattle.std.specs.Prelude.{OnOk, codes}
 use Rattle.std.specs.declared.io.ErrorKind.{ErrorKind}
 use Rattle.gix_date.specs.Text.Characters.{newline}
 use Rattle.streams.specs.declared.error.ToolError.{ToolError}
-use Rattle.streams.specs.Changes.{Change, change, IsWritten}
+use Rattle.streams.specs.Changes.{Change, change}
 use Rattle.gix_date.specs.Devices.StreamState.{StreamState}
 use Rattle.streams.specs.Messages.{fault_words, cause_words, is_closed_pipe, fault_message, message, WritesMessage, Reports}
 use Rattle.streams.specs.Outbox.{Output, Puts, PutsProperPrefix, Sends}
@@ -24,31 +24,7 @@ sent-is-written : (a b c : Output) {text : List ℕ} (r : Result (Unit {0}) Erro
 sent-is-written a b c {text = text} (Ok u) none put sent all = grind (arith, nat_tests, common_steps, append-nil)
 sent-is-written a b c (Err kind) none put sent all = refused-is-written none (PutsProperPrefix-sent put sent)
 
--- those two, by the answer of the sink
-refused-is_written : {a b : Output} {text : List ℕ} {kind : ErrorKind} → a.unsent ≡ [] → PutsProperPrefix a b text kind
-    → IsWritten (change a.sink b.sink) text (Err kind)
-refused-is_written {a = a} {b = b} {text = text} none h = grind (arith)
-
-sent-at_once : (a b c : Output) {text : List ℕ} (r : Result (Unit {0}) ErrorKind) → a.unsent ≡ [] → Puts a b text → Sends b c [] r
-    → OnOk r (c.unsent ≡ []) → IsWritten (change a.sink c.sink) text r
-sent-at_once a b c {text = text} (Ok u) none put sent all = grind (arith, nat_tests, common_steps, append-nil)
-sent-at_once a b c (Err kind) none put sent all = refused-is_written none (PutsProperPrefix-sent put sent)
-
 -- the same, where what waits and the sink stand by themselves
-pub refused_is_written : (from to : StreamState) (before after text : List ℕ) (kind : ErrorKind) → before ≡ []
-    → PutsProperPrefix (record { sink = from; unsent = before }) (record { sink = to; unsent = after }) text kind
-    → IsWritten (change from to) text (Err kind)
-refused_is_written from to before after text kind none h =
-    refused-is_written {a = record { sink = from; unsent = before }} {b = record { sink = to; unsent = after }} none h
-
-pub sent_at_once : (from mid to : StreamState) (before put after text : List ℕ) (r : Result (Unit {0}) ErrorKind) → before ≡ []
-    → Puts (record { sink = from; unsent = before }) (record { sink = mid; unsent = put }) text
-    → Sends (record { sink = mid; unsent = put }) (record { sink = to; unsent = after }) [] r → OnOk r (after ≡ [])
-    → IsWritten (change from to) text r
-sent_at_once from mid to before put after text r none h sent all =
-    sent-at_once (record { sink = from; unsent = before }) (record { sink = mid; unsent = put }) (record { sink = to; unsent = after }) r
-    none h sent all
-
 pub sent_is_written : (from mid to : StreamState) (before put after text : List ℕ) (r : Result (Unit {0}) ErrorKind) → before ≡ []
     → Puts (record { sink = from; unsent = before }) (record { sink = mid; unsent = put }) text
     → Sends (record { sink = mid; unsent = put }) (record { sink = to; unsent = after }) [] r → OnOk r (after ≡ [])

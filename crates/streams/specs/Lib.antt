@@ -8,7 +8,7 @@ pub mod Outbox
 pub mod Progress
 pub mod Serving
 pub mod Usual
-unfoldable pub use Changes.{change, IsUntouched, IsWritten}
+unfoldable pub use Changes.{change, IsUntouched}
 pub use Changes.{Change}
 unfoldable pub use Kinds.{kind_words}
 unfoldable pub use Lines.{IsLine, with_newline, SplitsAreUnique, last_line, LineGoesOn, with_last_line, IsCutAfter, IsFirstLine}
@@ -24,4 +24,4 @@ pub use Progress.{Held, Stage, IsReady, TakesAll, Takes, Extends, TakesIn, Takes
 unfoldable pub use Serving.{service, Answer, ServesLines, Stays, Joins, ServesFront, StopsAt, Unserved, EndsAt, answer_of}
 unfoldable pub use Serving.{fault_of, is_refused}
 pub use Serving.{Service, Front, GoesOn, Reached, IsWhole, Succeeded, Unread, Stopped, Ran}
-pub use Usual.{BeginsWithHeader, BeginsWithUnknown}
+pub use Usual.{HasHeaderInFront, BeginsWithHeader, BeginsWithUnknown}

@@ -1,7 +1,6 @@
 -- How far the lines of a reader were served between two reads.
 use Rattle.std.specs.Prelude.{◌≡◌, ℕ, ◌+◌, ◌<◌, ◌≤◌, List, [], ◌++◌, length, All, Option, None, Some, Result, Ok, Err, OnOk}
 use Rattle.std.specs.Borrow.{Bor}
-use Rattle.streams.specs.declared.error.ToolError.{ToolError}
 use Rattle.streams.specs.declared.serving.Stop.{Stop}
 use Rattle.streams.specs.declared.serving.Stop.TheVariants.{Reading, Serving}
 use Rattle.streams.specs.declared.progress.Progress.{Progress}

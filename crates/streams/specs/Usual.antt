@@ -5,6 +5,14 @@ use Rattle.gix_date.specs.Header.CanonicalBytes.{are_usual_seconds}
 use Rattle.streams.specs.Lines.{IsLine, with_newline}
 use Rattle.streams.specs.declared.usual.TheConstants.{MAX_HEADER}
 
+-- the input begins with a canonical header of few bytes, and these bytes stand after it
+pub record HasHeaderInFront (input after : List ℕ) : Type 0 where
+  pub header : List ℕ
+  pub whole : input ≡ header ++ after
+  pub is_line : IsLine header
+  pub is_canonical : is_canonical_header header ≡ true
+  pub is_short : length header ≤ MAX_HEADER
+
 -- the input begins with a line that is a canonical header of few bytes, and these bytes stand after its newline
 pub record BeginsWithHeader (input after : List ℕ) : Type 0 where
   pub line : List ℕ

@@ -15,6 +15,6 @@ pub mod usual;
 pub use error::ToolError;
 pub use lines::{MAX_LINE_LEN, first_line, lines_are_unique, split_line};
 pub use messages::{tell_fault, write_message};
-pub use program::{NoMoment, Outbox, Status, moment, print, put_pieces, words};
+pub use program::{NoMoment, Outbox, Status, moment, print, words};
 pub use progress::serve_lines;
 pub use serving::{MAX_LINES, Server, Stop};

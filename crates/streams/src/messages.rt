@@ -8,7 +8,8 @@ use gix_date::device::Sink;
 use std::io::ErrorKind;
 
 /// Says a text, given in pieces, by one call where the sink takes so many bytes, so that lines of programs side by side
-/// do not mix. What the sink refuses is not said.
+/// do not mix. What the sink refuses is not said. Apart, so that its outbox takes stack only where something is said.
+#[inline(never)]
 #[tactic(auto, using(crate::proofs::Reporting::sent_is_written))]
 pub fn write_message<M: Sink>(pieces: &[&str], messages: &mut M)
     ensures { Spec.WritesMessage (Spec.change (M.known messages.old) (M.known messages.new)) (Spec.pieces_text pieces.now) }

@@ -176,16 +176,3 @@ impl Outbox {
         Ok(())
     }
 }
-
-/// Sends a text, given in pieces, by one call where the sink takes so many bytes. If the sink refuses, it has taken a proper
-/// prefix of the text, and the answer is its fault.
-#[tactic(auto, using(crate::proofs::Reporting::refused_is_written, crate::proofs::Reporting::sent_at_once))]
-pub fn put_pieces<W: Sink>(pieces: &[&str], out: &mut W) -> Result<(), io::ErrorKind>
-    ensures { Spec.IsWritten (Spec.change (W.known out.old) (W.known out.new)) (Spec.pieces_text pieces.now) result }
-{
-    let mut text = Outbox::new();
-    if let Err(kind) = text.push(pieces, out) {
-        return Err(kind);
-    }
-    text.send(out)
-}

@@ -12,14 +12,36 @@ pub const MAX_HEADER: usize = 22;
 /// The bytes after a first line that is a canonical header, and ends in a newline.
 ///
 /// Only headers of at most 16 digits are found, the first no zero, and only where 16 bytes are left.
+#[tactic(auto, using(crate::proofs::HeaderLines::header_is_line))]
 #[inline(always)]
 pub fn canonical_line(bytes: &[u8]) -> Option<&[u8]>
     ensures { IfSome result (λ after. Spec.BeginsWithHeader bytes.now after.now) }
 {
+    match after_header(bytes)? {
+        [end, after @ ..] if *end == b'\n' => Some(after),
+        _ => None,
+    }
+}
+
+/// Whether bytes are a canonical header of the kind that [`canonical_line`] finds.
+#[tactic(auto, using(crate::proofs::HeaderLines::header_is_all))]
+#[inline(always)]
+pub fn is_usual_header(bytes: &[u8]) -> bool
+    ensures { IsTrue result → GixDate.is_canonical_header bytes.now ≡ true }
+{
+    matches!(after_header(bytes), Some([]))
+}
+
+/// The bytes after a canonical header in front.
+#[inline(always)]
+fn after_header(bytes: &[u8]) -> Option<&[u8]>
+    ensures { IfSome result (λ after. Spec.HasHeaderInFront bytes.now after.now) }
+{
     let (_, rest) = split_seconds(bytes)?;
     match rest {
-        [blank, sign, a, b, c, d, end, after @ ..]
-            if *end == b'\n' && is_usual_offset(*blank, *sign, *a, *b, *c, *d) => { Some(after) }
+        [blank, sign, a, b, c, d, after @ ..] if is_usual_offset(*blank, *sign, *a, *b, *c, *d) => {
+            Some(after)
+        }
         _ => None,
     }
 }

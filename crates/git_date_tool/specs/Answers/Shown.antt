@@ -1,5 +1,5 @@
 -- How dates are shown.
-use Rattle.std.specs.Prelude.{◌≡◌, ◌≢◌, ◌==◌, ℕ, Bool, true, false, if◌then◌else◌, List, [], ◌∷◌, drop, length, Option, Some, None, IsSome}
+use Rattle.std.specs.Prelude.{◌≡◌, ◌≢◌, ◌==◌, ℕ, Bool, true, false, if◌then◌else◌, List, drop, length, Option, Some, None, IsSome}
 use Rattle.std.specs.Prelude.{option_map, ok_or, Result, Ok, Err, String, string_bytes, codes}
 use Rattle.std.specs.List.{starts_with}
 use Rattle.std.specs.Result.{result_map_both}

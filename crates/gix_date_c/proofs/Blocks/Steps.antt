@@ -1,13 +1,15 @@
 -- How far a block is read or checked, line by line.
 use Rattle.std.proofs.Common.{◌≡◌, ◌∙◌, ◌⊎◌, ℕ, ◌+◌, ◌-◌, ◌<◌, ◌≤◌, List, [], ◌∷◌, ◌++◌, length, refl, sym, ap, subst, arith, length-append}
-use Rattle.std.proofs.Common.{Result}
+use Rattle.std.proofs.Common.{Result, append_assoc, inl, true}
 use Rattle.std.proofs.Math.ListN.{set}
 use Rattle.std.proofs.lemmas.Slice.Zip.{AllZip-long}
 use Rattle.std.specs.List.{AllZip}
 use Rattle.gix_date.specs.Header.Canonical.{is_canonical_header}
+use Rattle.gix_date.specs.Text.Characters.{newline}
 use Rattle.streams.specs.Lines.{IsCutAfter}
+use Rattle.streams.specs.Usual.{BeginsWithHeader}
 use Rattle.gix_date_c.specs.Git.Dates.{bool_for_c}
-use Rattle.gix_date_c.specs.Lines.Blocks.{ChecksLines, DoesLines}
+use Rattle.gix_date_c.specs.Lines.Blocks.{ChecksLines, DoesLines, IsChecked}
 use Rattle.gix_date_c.specs.Lines.Columns.{Columns, changed, columns_after, room_of, with_answer}
 use Rattle.gix_date_c.specs.declared.values.status.Status.{Status}
 use Rattle.gix_date_c.specs.declared.values.time.CTime.{CTime}
@@ -108,4 +110,12 @@ Checking-all block old new left done h end = record {
       (subst (λ n. (left ≡ []) ⊎ (n ≡ length old)) h.counted end);
   stored = h.stored;
   counted = h.counted;
+}
+
+-- a usual header in front is canonical
+pub canonical_checked : (input after : List ℕ) → BeginsWithHeader input after → IsChecked input true after
+canonical_checked input after h = record {
+  line = h.line;
+  cut = (h.is_line, inl (h.whole ∙ append_assoc h.line (newline ∷ []) after));
+  is = sym h.is_canonical;
 }

@@ -1,8 +1,8 @@
 -- What a call does of a block of lines.
-use Rattle.std.specs.Prelude.{◌≡◌, ◌⊎◌, ◌≤◌, ℕ, List, [], length, Result}
+use Rattle.std.specs.Prelude.{◌≡◌, ◌⊎◌, ◌≤◌, ℕ, Bool, List, [], length, Result}
 use Rattle.std.specs.List.{AllZip}
 use Rattle.gix_date.specs.Header.Canonical.{is_canonical_header}
-use Rattle.streams.specs.Lines.{Part, with_last_line}
+use Rattle.streams.specs.Lines.{IsCutAfter, Part, with_last_line}
 use Rattle.gix_date_c.specs.Git.Dates.{bool_for_c}
 use Rattle.gix_date_c.specs.Lines.Columns.{Columns, changed, columns_after, room_of}
 use Rattle.gix_date_c.specs.declared.values.status.Status.{Status}
@@ -26,6 +26,12 @@ pub record DoesLines (Reads : List ℕ → Result CTime Status → Type 0) (bloc
   pub each : AllZip Reads lines answers
   pub stored : new ≡ columns_after answers old
   pub counted : done.0 ≡ length lines
+
+-- the first line of an input is a canonical header, or is none, and these bytes stand after it
+pub record IsChecked (input : List ℕ) (comes_back : Bool) (after : List ℕ) : Type 0 where
+  pub line : List ℕ
+  pub cut : IsCutAfter input (line, after)
+  pub is : comes_back ≡ is_canonical_header line
 
 -- A call has told of the first lines of a block whether each is a canonical header.
 pub record ChecksLines (block old new : List ℕ) (done : ℕ × ℕ) : Type 0 where

@@ -2,9 +2,9 @@
 use crate::fakes::answers::{check, check_at};
 use crate::fakes::machine::Machine;
 use crate::fakes::{Dribble, Slow, take_all};
-use gix_date::device::Device;
+use gix_date::device::{Device, Sink};
 use std::io::ErrorKind;
-use streams::{put_pieces, words};
+use streams::{Outbox, words};
 
 /// More than any first guess of a word's length.
 const LONG: [u8; 5000] = [b'x'; 5000];
@@ -52,7 +52,7 @@ fn a_text_in_pieces_is_sent_at_once_or_in_part(rt: HostRuntime) {
     let text = b"1 +0000\n".as_slice();
     for room in 0..=text.len() {
         let mut out = Device::new(Slow::new(rt.alloc(), 99, room, ErrorKind::StorageFull));
-        let sent = put_pieces(&pieces, &mut out);
+        let sent = send_pieces(&pieces, &mut out);
         let due = if room == text.len() {
             Ok(())
         } else {
@@ -64,5 +64,15 @@ fn a_text_in_pieces_is_sent_at_once_or_in_part(rt: HostRuntime) {
         check(&rt, inner.calls <= 2);
     }
     let mut none = Dribble::new(99);
-    check(&rt, put_pieces(&[], &mut none) == Ok(()) && none.calls == 0);
+    check(
+        &rt,
+        send_pieces(&[], &mut none) == Ok(()) && none.calls == 0,
+    );
+}
+
+/// Puts a text into an outbox in pieces, and sends it.
+fn send_pieces<W: Sink>(pieces: &[&str], out: &mut W) -> Result<(), ErrorKind> {
+    let mut outbox = Outbox::new();
+    outbox.push(pieces, out)?;
+    outbox.send(out)
 }

@@ -1,10 +1,9 @@
-use Rattle.std.proofs.Common.{◌≡◌, ◌∙◌, ◌++◌, ◌∷◌, [], ap, ◌+◌, subst, sym, take, drop, map, string_bytes, append_assoc, length, Ok, Err}
-use Rattle.std.proofs.Common.{rules}
+use Rattle.std.proofs.Common.{arith, ◌∙◌, ◌∷◌, [], ap, ◌+◌, subst, sym, take, drop, map, string_bytes, append_assoc, Ok, Err}
 use Rattle.streams.specs.Changes.{change}
 use Rattle.streams.specs.Serving.{service}
-use Rattle.git_date_tool.specs.Runs.{AnswersTo, Answered, BreaksAmong, both, output_of, turn_of}
+use Rattle.git_date_tool.specs.Runs.{AnswersTo, SendsReplies, turn_of}
 use Rattle.git_date_tool.specs.Served.{more_lines, no_lines}
-use Rattle.git_date_tool.proofs.Answering.{breaks-beyond, texts-more, texts-around}
+use Rattle.git_date_tool.proofs.Answering.{faulted-beyond, run_over, texts-all, texts-more, texts-around}
 use Rattle.git_date_tool.proofs.runs.run_over.Goals as goal
 
 pub loop-text-init : goal.loop-text-init
@@ -37,6 +36,34 @@ returns-in-Err g c =
     let whole =
     texts-around texts i c.text-item.result text c.loop-text-test.true (c.as_bytes.ensures.value ∙ ap string_bytes c.text-item.is)
     ∙ sym (append_assoc before (text ∷ []) after) in
-    subst (λ turn. BreaksAmong turn (map string_bytes texts) (output_of first next) fault) c.new-answering.ensures.turn
-    (subst (λ ts. BreaksAmong (turn_of c.new-answering.result) ts (output_of first next) fault) (sym whole)
-    (breaks-beyond _ _ after _ fault joined))
+    let beyond = faulted-beyond (turn_of first.server) _ after (SendsReplies first next) (change first.told next.told) fault joined in
+    run_over c.args.query.now first.server next.server first.out next.out first.told next.told (map string_bytes texts) (Err fault)
+    c.new-answering.ensures.turn c.new-answering.ensures.verdict c.new-answering.ensures.unsent tt
+    (subst (λ ts. AnswersTo first next ts (Err fault)) (sym whole) beyond)
+
+pub returns-in-Ok : goal.returns-in-Ok
+returns-in-Ok g c =
+    let texts = c.args.texts.now in
+    let first = service c.new-answering.result (g.W.Sink.known c.args.writer.now) (g.M.Sink.known c.args.messages.now) in
+    let mid = service c.loop-text.answering (g.W.Sink.known c.loop-text.writer) (g.M.Sink.known c.loop-text.messages) in
+    let last = service c.settle.new.self (g.W.Sink.known c.settle.new.out) (g.M.Sink.known c.loop-text.messages) in
+    let joined = more_lines first mid last (map string_bytes (take c.loop-text.text-index texts)) [] (Ok tt) c.loop-text.invariant
+    (c.in-Ok.ensures.serves last.told) in
+    run_over c.args.query.now first.server last.server first.out last.out first.told last.told (map string_bytes texts) (Ok tt)
+    c.new-answering.ensures.turn c.new-answering.ensures.verdict c.new-answering.ensures.unsent c.in-Ok.ensures.settled
+    (subst (λ ts. AnswersTo first last ts (Ok tt))
+    (texts-all texts c.loop-text.text-index (omega (arith, c.loop-text-test.false))) joined)
+
+pub returns-in-Err-settle : goal.returns-in-Err-settle
+returns-in-Err-settle g c =
+    let texts = c.args.texts.now in
+    let first = service c.new-answering.result (g.W.Sink.known c.args.writer.now) (g.M.Sink.known c.args.messages.now) in
+    let mid = service c.loop-text.answering (g.W.Sink.known c.loop-text.writer) (g.M.Sink.known c.loop-text.messages) in
+    let last = service c.settle.new.self (g.W.Sink.known c.settle.new.out) (g.M.Sink.known c.loop-text.messages) in
+    let fault = c.in-Err-settle.fault in
+    let joined = more_lines first mid last (map string_bytes (take c.loop-text.text-index texts)) [] (Err fault) c.loop-text.invariant
+    (c.in-Err-settle.ensures.serves last.told) in
+    run_over c.args.query.now first.server last.server first.out last.out first.told last.told (map string_bytes texts) (Err fault)
+    c.new-answering.ensures.turn c.new-answering.ensures.verdict c.new-answering.ensures.unsent tt
+    (subst (λ ts. AnswersTo first last ts (Err fault))
+    (texts-all texts c.loop-text.text-index (omega (arith, c.loop-text-test.false))) joined)

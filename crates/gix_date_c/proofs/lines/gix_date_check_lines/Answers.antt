@@ -14,11 +14,12 @@ lines-init c = Checking-none c.args.block.now c.args.canonical.now
 
 pub lines-preserved : goal.lines-preserved
 lines-preserved c =
+    let checked = c.in-Some.ensures.1 in
     let put = ap (λ (cell : ℕ). set c.lines.canonical c.lines.done cell)
-    (c.from.ensures ∙ byte-is c.is_canonical.result ∙ ap bool_for_c c.is_canonical.ensures) in
-    Checking-next c.args.block.now c.args.canonical.now c.lines.canonical _ c.lines.left.now c.in-Some.line.now c.in-Some.after.now
+    (c.from.ensures ∙ byte-is c.in-Some.comes_back ∙ ap bool_for_c checked.is) in
+    Checking-next c.args.block.now c.args.canonical.now c.lines.canonical _ c.lines.left.now checked.line c.in-Some.after.now
     c.lines.done
-    c.lines.invariant c.in-Some.ensures.0 c.in-Some.ensures.1 put
+    c.lines.invariant c.in-Some.ensures.0 checked.cut put
 
 pub returns : goal.returns
 returns c = Checking-all c.args.block.now c.args.canonical.now c.lines.canonical c.lines.left.now c.lines.done c.lines.invariant

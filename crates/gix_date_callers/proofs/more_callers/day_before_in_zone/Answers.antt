@@ -1,4 +1,4 @@
-use Rattle.std.proofs.Common.{◌≡◌, ◌∙◌, ◌-ℤ◌, pos, true, Option, Some, Result, Ok, Err, MatchResult, refl, subst, sym}
+use Rattle.std.proofs.Common.{◌≡◌, ◌∙◌, ◌-ℤ◌, pos, Option, Some, Result, Ok, Err, MatchResult, refl, subst, sym}
 use Rattle.std.proofs.lemmas.Option.{same_Some as same_some}
 use Rattle.std.specs.Prelude.{codes}
 use Rattle.std.specs.Result.{IsErrAnd}

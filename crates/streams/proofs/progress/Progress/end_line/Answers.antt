@@ -1,4 +1,4 @@
-use Rattle.std.proofs.Common.{rules, arith, ◌≡◌, ◌+◌, [], ◌∷◌, sym, ap, ◌∙◌, subst, refl, length-append, Ok, Err}
+use Rattle.std.proofs.Common.{rules, arith, ◌≡◌, ◌+◌, [], ◌∷◌, sym, ap, ◌∙◌, subst, length-append, Ok, Err}
 use Rattle.gix_date.specs.Text.Characters.{newline}
 use Rattle.streams.specs.declared.error.ToolError.TheVariants as errors
 use Rattle.streams.specs.declared.serving.Stop.TheVariants.{Reading, Serving}

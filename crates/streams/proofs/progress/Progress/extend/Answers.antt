@@ -1,4 +1,4 @@
-use Rattle.std.proofs.Common.{rules, ◌≡◌, ◌≤◌, ℕ, List, length, length-append, arith, sym, ap, ◌∙◌, subst, refl, Ok, Err}
+use Rattle.std.proofs.Common.{rules, ◌≡◌, ◌≤◌, ℕ, List, length, length-append, arith, sym, ap, ◌∙◌, subst, Ok, Err}
 use Rattle.streams.specs.declared.error.ToolError.TheVariants as errors
 use Rattle.streams.specs.declared.serving.Stop.TheVariants.{Reading}
 use Rattle.streams.specs.declared.lines.TheConstants.{MAX_LINE_LEN}

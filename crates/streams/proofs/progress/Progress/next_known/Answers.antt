@@ -1,7 +1,6 @@
-use Rattle.std.proofs.Common.{rules, arith, ◌≡◌, ◌<◌, ◌+◌, List, ℕ, [], sym, ap, subst, Ok, Err}
+use Rattle.std.proofs.Common.{arith, ◌≡◌, ◌<◌, ◌+◌, [], ap, Ok}
 use Rattle.streams.specs.Lines.{with_newline}
 use Rattle.streams.specs.Progress.{held_of, stage}
-use Rattle.streams.specs.Serving.{service}
 use Rattle.streams.proofs.Taking.{TakesIn-front, TakesIn-whole, no_byte, some_line}
 use Rattle.streams.proofs.progress.Progress.next_known.Goals as goal
 

@@ -1,4 +1,4 @@
-use Rattle.std.proofs.Common.{rules, arith, ◌≡◌, [], ◌∷◌, ◌++◌, ◌∙◌, sym, ap, refl, subst, append_assoc, Ok, Err}
+use Rattle.std.proofs.Common.{[], ◌∷◌, ◌∙◌, sym, subst, append_assoc, Ok, Err}
 use Rattle.gix_date.specs.Text.Characters.{newline}
 use Rattle.streams.specs.Lines.{with_newline}
 use Rattle.streams.specs.Progress.{IsReady, Stage, TakesIn, held_of, stage}
