@@ -206,6 +206,26 @@ fn printed_seconds(text: &[u8]) -> Option<Said>
     Some(said_at(seconds as i64, minutes))
 }
 
+/// What `1660797906` says, alone or after `@`.
+#[tactic(auto, using(gix_date::proofs::Text::Ints::held, crate::proofs::Exact::FastSeconds::at_alone_is, crate::proofs::Exact::FastSeconds::alone_is))]
+fn seconds_alone(text: &[u8]) -> Option<Said>
+    ensures says { IfSome result (Spec.Says text.now) }
+    ensures instant { IfSome result Spec.SaidIsInstant }
+{
+    let text = match text {
+        [at, rest @ ..] if *at == b'@' => rest,
+        _ => text,
+    };
+    let seconds = seconds(text)?;
+    Some(Said {
+        seconds: seconds as i64,
+        offset: None,
+        epoch: true,
+        leap: false,
+        ignored: None,
+    })
+}
+
 /// What the fields say that were read. Without a year, a month or a clock Git reads no date.
 #[tactic(auto, unfolding(crate::specs::fields_said))]
 #[inline(always)]
@@ -269,6 +289,9 @@ pub(crate) fn said_by(now: Timestamp, text: &[u8]) -> Result<Said, DateError>
     ensures value { result ≡ Spec.said_by (Spec.now_at now.nanosecond) text.now }
     ensures instant { IfOk result Spec.SaidIsInstant }
 {
+    if let Some(said) = seconds_alone(text) {
+        return Ok(said);
+    }
     let (string, nul) = up_to_nul(text);
     let said = string_said(now, string)?;
     Ok(Said {

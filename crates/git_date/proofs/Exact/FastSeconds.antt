@@ -1,6 +1,6 @@
 -- Seconds since 1970 and an offset, as `raw` shows them, say themselves: alone and after `@`.
 use Rattle.std.proofs.Common.{◌≡◌, ◌∙◌, ◌≤◌, ◌<◌, ◌+◌, ◌-◌, ◌*◌, ◌/◌, ◌%◌, ℕ, ℤ, pos, neg_ℤ, nat_le, Bool, true, false, cond, List, [], ◌∷◌}
-use Rattle.std.proofs.Common.{◌++◌, length, take, drop, get_or, Option, Some, None, Ok, refl, ap, sym, subst, arith}
+use Rattle.std.proofs.Common.{◌++◌, length, take, drop, get_or, Option, Some, None, Ok, refl, ap, sym, subst, arith, append-nil, suc}
 use Rattle.std.specs.Char.{is_ascii_digit}
 use Rattle.std.specs.List.{fold, list_all}
 use Rattle.std.specs.Prelude.{nat_lt}
@@ -22,7 +22,7 @@ use Rattle.git_date.specs.Exact.Fast.{IsGitDate, WritesTwo, WritesClock, WritesO
 use Rattle.git_date.specs.Rules.Fields.{unknown}
 use Rattle.git_date.specs.Tokens.Numbers.{digit_more, number}
 use Rattle.git_date.specs.Rules.Offsets.{at_text, padded_number, white, without_white}
-use Rattle.git_date.specs.Exact.Reading.{ended, steps, at_said, by_seconds, fields_said, string_said, at_or_fields}
+use Rattle.git_date.specs.Exact.Reading.{ended, step, steps, at_said, by_seconds, fields_said, string_said, at_or_fields}
 use Rattle.git_date.specs.Tokens.Tokens.{Token, Digits, Mark, tokens}
 use Rattle.git_date.specs.Rules.Words.{without_ending}
 use Rattle.git_date.specs.declared.fields.dates.Now.{Now}
@@ -35,6 +35,7 @@ use Rattle.git_date.proofs.Exact.PrintedClocks.{spaced-offset, offset_in_minutes
 use Rattle.git_date.proofs.Exact.PrintedReads.{reads-are, sign-free}
 use Rattle.git_date.proofs.Text.StringEnds.{has_nul, no-nul, whole-said}
 use Rattle.git_date.proofs.Text.TokenRuns.{mark-first}
+use Rattle.git_date.proofs.Text.Walked.{nothing-left}
 
 -- two digits more
 pair-read : (v n tens ones : ℕ) (rest : List ℕ) → n ≤ 99 → two_digits n ≡ tens ∷ ones ∷ []
@@ -225,6 +226,56 @@ module _ (seconds offset_is : List ℕ) (n : ℕ) (offset : ℤ) (s : WritesSeco
       ∙ (λ i. Some (s.is i, minutes i)) in
       whole-said now text (no-nul text (ap has_nul are ∙ free)) ∙ ap (λ (o : Option (ℕ × ℤ)). at_or_fields now text o) found
       ∙ said-is n offset instant
+
+-- seconds alone, whose offset the zone has
+abbrev pub said_alone : ℕ → Said
+said_alone n = record { seconds = pos n; offset = None; epoch = true; leap = false; ignored = None }
+
+alone-run : (run : List ℕ) → list_all is_ascii_digit run ≡ true → 1 ≤ number run → tokens run ≡ Digits run ∷ []
+unfolding number tokens
+alone-run [] digits h = absurd (omega (arith, h))
+alone-run (c ∷ run) digits h =
+    subst (λ (text : List ℕ). tokens text ≡ Digits (c ∷ run) ∷ []) (append-nil (c ∷ run))
+    (run-before (c ∷ run) [] [] (omega arith) digits refl tt)
+
+module _ (seconds : List ℕ) (n : ℕ) (s : WritesSeconds seconds n) where
+  abbrev epoch : Fields
+  epoch = with_epoch unknown (shown_of (pos n))
+
+  alone-are : tokens seconds ≡ Digits seconds ∷ []
+  alone-are = let first = s.first in let is = s.is in alone-run seconds s.digits (omega (arith, first, is))
+
+  alone-steps : (now : Now) (k : ℕ) → steps now (suc k) (at unknown) (Digits seconds ∷ []) ≡ Ok (at epoch)
+  unfolding without_ending
+  alone-steps now k =
+      go now k unknown epoch (Digits seconds) [] [] refl (ap ended (epoch-by now n seconds [] s.is s.first s.last))
+      ∙ nothing-left (step now) k (at epoch)
+
+  pub alone-says : Says seconds (said_alone n)
+  unfolding at_text
+  alone-says now =
+      reads-are now seconds (Digits seconds ∷ []) 40 epoch alone-are refl (omega arith) refl (alone-steps now 39)
+      ∙ epoch-says n None seconds s.last
+
+  pub at-alone-says : Says (at_sign ∷ seconds) (said_alone n)
+  unfolding at_text
+  at-alone-says now =
+      reads-are now (at_sign ∷ seconds) (Mark at_sign ∷ Digits seconds ∷ []) 40 epoch
+      (mark-first at_sign seconds refl refl ∙ ap (λ (ts : List Token). Mark at_sign ∷ ts) alone-are) refl (omega arith) refl
+      (go now 39 unknown unknown (Mark at_sign) (Digits seconds ∷ []) (Digits seconds ∷ []) refl refl ∙ alone-steps now 38)
+      ∙ epoch-says n None (at_sign ∷ seconds) s.last
+
+pub alone_is : (text : List ℕ) (n : ℕ) → WritesSeconds text n → Says text (said_alone n)
+alone_is text n w = alone-says text n w
+
+pub at_alone_is : (text : List ℕ) (n : ℕ) → 1 ≤ length text → get_or text 0 0 ≡ at_sign
+    → WritesSeconds (take (length text - 1) (drop 1 text)) n
+    → Says text (said_alone n)
+at_alone_is [] n some is w = absurd (omega arith)
+at_alone_is (c ∷ text) n some is w =
+    let rest : take (length (c ∷ text) - 1) text ≡ text = take_all (length (c ∷ text) - 1) text (omega arith) in
+    subst (λ (text : List ℕ). Says text (said_alone n)) (λ i. sym is i ∷ text)
+    (at-alone-says text n (subst (λ (text : List ℕ). WritesSeconds text n) rest w))
 
 pub raw_text_is : (text : List ℕ) (n : ℕ) (minutes : ℤ) → WritesRaw text (n, minutes) → Says text (said_at n minutes)
 raw_text_is text n minutes w =
