@@ -26,6 +26,7 @@ static uint32_t call(char kind, uint32_t format, const char *text, size_t len)
     gix_date_signature parts;
     char out[64];
     size_t out_len, place;
+    int32_t offset;
     switch (kind) {
     case 'h':
         return gix_date_parse_header(text, len, &time);
@@ -57,12 +58,16 @@ static uint32_t call(char kind, uint32_t format, const char *text, size_t len)
     case 'F':
         return git_date_show_by_format(&day, text, len, false, &zone, out, sizeof out, &out_len,
                                        &place);
+    case 'P':
+        return gix_date_format_by_pattern(&day, text, len, out, sizeof out, &out_len);
     case 'i':
         return gix_date_ident(text, len, &ident);
     case 'q':
         return gix_date_fsck(text, len, &place);
     case 'u':
         return gix_date_cut_signature(text, len, &parts);
+    case 'o':
+        return gix_date_offset_at(&now, &zone, &offset);
     case 'Z':
         return gix_date_zone_read(bytes, bytes_len, &zone);
     default:

@@ -68,6 +68,7 @@ static size_t read_headers(const char *block, size_t len, cells *into)
 static void ends_of_lines(void)
 {
     static const due five = {GIX_DATE_OK, 5, 0}, none_such = REFUSED(GIX_DATE_INVALID_TIME);
+    static const due ten = {GIX_DATE_OK, 1660797906, 28800};
     const struct {
         const char *block;
         size_t len, count;
@@ -81,6 +82,9 @@ static void ends_of_lines(void)
         {"\n5 +0000", 8, 2, {none_such, five}},
         {"5 +0000\n6 +0100\nx", 17, 3, {five, {GIX_DATE_OK, 6, 3600}, none_such}},
         {"\xff\n5 +0000", 9, 2, {REFUSED(GIX_DATE_NOT_TEXT), five}},
+        {"1660797906 +0800\n1660797906 +0800", 33, 2, {ten, ten}},
+        {"1660797906 +0800\n\n1660797906 +0800\n", 35, 3, {ten, none_such, ten}},
+        {"1660797906 +0800\n1660797906 -0130\n", 34, 2, {ten, {GIX_DATE_OK, 1660797906, -5400}}},
     };
     for (size_t i = 0; i < sizeof rows / sizeof *rows; i++) {
         cells seen = no_cells();

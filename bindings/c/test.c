@@ -390,6 +390,34 @@ static void offsets(void)
     EXPECT(offset == -16200, "a refusal stores nothing");
 }
 
+/* The seconds at which rules change, by `date` of GNU with TZ: in the north, in the south, by a day of the year, and never. */
+static void rule_changes(void)
+{
+    static const struct {
+        const char *rule;
+        int64_t seconds;
+        int32_t offset;
+    } rows[] = {{"CET-1CEST,M3.5.0,M10.5.0/3", 1711846799, 3600},
+                {"CET-1CEST,M3.5.0,M10.5.0/3", 1711846800, 7200},
+                {"CET-1CEST,M3.5.0,M10.5.0/3", 1729990799, 7200},
+                {"CET-1CEST,M3.5.0,M10.5.0/3", 1729990800, 3600},
+                {"AEST-10AEDT,M10.1.0,M4.1.0/3", 1712419199, 39600},
+                {"AEST-10AEDT,M10.1.0,M4.1.0/3", 1712419200, 36000},
+                {"AEST-10AEDT,M10.1.0,M4.1.0/3", 1728143999, 36000},
+                {"AEST-10AEDT,M10.1.0,M4.1.0/3", 1728144000, 39600},
+                {"EST5EDT,J60/2,J300/2", 1709189999, -18000},
+                {"EST5EDT,J60/2,J300/2", 1709276400, -14400},
+                {"EST5", 1709276400, -18000}};
+    for (size_t i = 0; i < sizeof rows / sizeof *rows; i++) {
+        gix_date_zone zone = zone_of(TEXT(rows[i].rule));
+        const gix_date_instant instant = {rows[i].seconds, 0};
+        int32_t offset = 99;
+        EXPECT(gix_date_offset_at(&instant, &zone, &offset) == GIX_DATE_OK && offset == rows[i].offset,
+               "%s at %lld: %d", rows[i].rule, (long long)rows[i].seconds, (int)offset);
+        gix_date_zone_free(&zone);
+    }
+}
+
 /* A TZif file of the first version: a header, one kind of time, and one leap second. */
 static const char leap_seconds[] = "TZif\0\0\0\0\0\0\0\0\0\0\0\0\0\0\0\0"
                                    "\0\0\0\0\0\0\0\0\0\0\0\1\0\0\0\0\0\0\0\1\0\0\0\4"
@@ -664,8 +692,8 @@ static void print(const gix_date_time *time, uint32_t format, const char *patter
     EXPECT(status == GIX_DATE_OK || len == 0, "a refusal writes nothing");
 }
 
-/* What each print asks for. By a pattern that is no named one, or for a time that is printed by it,
- * the first request is for twice the pattern's length, and others follow only for a longer text. */
+/* What each print asks for. By a named pattern, or one of usual letters, it asks for nothing. By any
+ * other the first request is for twice the pattern's length, and others follow only for a longer text. */
 static void memory_of_prints(void)
 {
     static const gix_date_time day = {1660874655, 28800}, early = {-62198755200, 0},
@@ -680,7 +708,8 @@ static void memory_of_prints(void)
         {&far, GIX_DATE_ISO8601, "", {0, 0}, {1, 19}},
         {&wide, GIX_DATE_RAW, "", {0, 0}, {1, 1}},
         {&day, BY_PATTERN, "%Y-%m-%d %H:%M:%S %z", {0, 0}, {0, 0}},
-        {&day, BY_PATTERN, "%H:%M", {1, 10}, {1, 10}},
+        {&day, BY_PATTERN, "%H:%M", {0, 0}, {0, 0}},
+        {&day, BY_PATTERN, "%I:%M", {1, 10}, {1, 10}},
         {&day, BY_PATTERN, "%A, %B, %A, %B", {2, 28 + 56}, {2, 28 + 56}},
         {&day, BY_PATTERN, "", {0, 0}, {0, 0}},
         {&day, BY_PATTERN, "%!", {1, 4}, {2, 4 + 10}},
@@ -706,10 +735,10 @@ static void patterns_without_memory(void)
     memset(buffer, '#', sizeof buffer);
     demand before = so_far();
     refuse_after(0);
-    EXPECT(gix_date_format_by_pattern(&day, TEXT("%H:%M"), out, sizeof buffer, &len) ==
+    EXPECT(gix_date_format_by_pattern(&day, TEXT("%I:%M"), out, sizeof buffer, &len) ==
                GIX_DATE_OUT_OF_MEMORY,
            "a clock");
-    EXPECT(gix_date_format_by_pattern_or_unix(&day, TEXT("%H:%M"), out, sizeof buffer,
+    EXPECT(gix_date_format_by_pattern_or_unix(&day, TEXT("%I:%M"), out, sizeof buffer,
                                               &len_or_unix) == GIX_DATE_OUT_OF_MEMORY,
            "a clock");
     refuse_after(SIZE_MAX);
@@ -1029,6 +1058,7 @@ int main(void)
     careful_dates_by_a_rule();
     zones_are_read();
     offsets();
+    rule_changes();
     refused_zones();
     zones_of_texts();
     paths_of_zones();

@@ -126,8 +126,8 @@ fn a_text_that_has_no_memory_is_refused() {
         [
             time.to_header(),
             time.format(format::ISO8601),
-            time.format_by_pattern("%H:%M"),
-            time.format_by_pattern_or_unix("%H:%M"),
+            time.format_by_pattern("%I:%M"),
+            time.format_by_pattern_or_unix("%I:%M"),
             write_signature("A", "a", time),
         ]
     });

@@ -24,10 +24,12 @@ unfoldable pub use Approximate.Zones.{clock_at, shown_in, found_by, found_at, fi
 unfoldable pub use Approximate.Zones.{filled_time}
 unfoldable pub use Exact.Computing.{computing}
 unfoldable pub use Exact.Decimals.{with_sign, offset_from_decimal, offset_to_decimal}
-unfoldable pub use Exact.Fast.{is_date_mark, marked_date, fields_in, SaysFields, Says, SaysDate, has_few_digits}
+unfoldable pub use Exact.Fast.{is_date_mark, marked_date, WritesAnyClock, fields_in, day_fields, local_fields, SaysFields}
+unfoldable pub use Exact.Fast.{said_alone, Says, SaysDate, SaysIn, has_few_digits}
 pub use Exact.Fast.{WritesTwo, WritesYear, WritesMonth, WritesWeekday, IsGitDate, WritesDate, WritesDay}
-pub use Exact.Fast.{WritesMonthYear, WritesMailDate, WritesMailDay, WritesNamedDay, WritesClock, WritesOffset}
-pub use Exact.Fast.{WritesTime, WritesStrictTime, WritesYearOffset, WritesYearTime, WritesSeconds, WritesRaw}
+pub use Exact.Fast.{WritesMonthYear, WritesMailDate, WritesMailDay, WritesNamedDay, WritesClock, WritesShortClock}
+pub use Exact.Fast.{WritesSpacedClock, WritesOffset, WritesTime, WritesStrictTime, WritesYearOffset, WritesYearTime}
+pub use Exact.Fast.{WritesSeconds, WritesRaw}
 unfoldable pub use Exact.Outcome.{SaidIsInstant, IsMinutes, instant_seconds, date_at, date_in, said_in, at_offset, date_of}
 unfoldable pub use Exact.Outcome.{read_at, DateOutcomeAt, DateOutcome, said_offset, IsPlaceIn, IsErrorIn, HasPlacesIn}
 unfoldable pub use Exact.Places.{without_colon, is_absolute, folder_of, file_of, is_utc, us_dates, rule_of, IsRule, IsUtcOrRule}
@@ -35,6 +37,8 @@ unfoldable pub use Exact.Places.{IsTextZone, IsZoneWithoutFile, data_len, says_l
 unfoldable pub use Exact.Places.{table_error, IsNoTable, IsTable}
 unfoldable pub use Exact.Reading.{ended, sign_rule, rule, nothing_read, read_on, step, steps, reading_of, place_in, error_of}
 unfoldable pub use Exact.Reading.{at_said, by_seconds, fields_said, at_or_fields, string_said, said_up_to, said_by}
+unfoldable pub use Exact.RuleYears.{whole_second, IsDaylight}
+pub use Exact.RuleYears.{IsYearAt, ChangesAt}
 unfoldable pub use Exact.ZoneTexts.{distance, IsNear, signed, signed_hours, signed_clock, zone_offset}
 unfoldable pub use Exact.Zones.{States, daylight_at, state_there, states_of, one_offset, state_by, is_same, same_flag, flagged}
 unfoldable pub use Exact.Zones.{flag_step, flag_steps, flagged_at, nearest, hour_off, by_flag, first_trail, moved, stops, is_back}
@@ -53,7 +57,7 @@ unfoldable pub use Formats.Pieces.{letter_place, plain_at, directive_at, plain_o
 unfoldable pub use Formats.Pieces.{text_piece, next_piece, next_view, piece_before, then_pieces, pieces_in, pieces, pieces_or_none}
 unfoldable pub use Formats.Pieces.{is_format, placed, format_fault, checked_by, checked}
 pub use Formats.Pieces.{Piece, Text, Begun}
-unfoldable pub use Formats.Short.{made_text, letter_text, PushesLetter}
+unfoldable pub use Formats.Short.{made_text, letter_text, date_and_clock_text, PushesLetter}
 pub use Formats.Short.{Passes}
 unfoldable pub use Formats.Shown.{seconds_said, zone_abbreviation, own_shown_by, own_shown, zone_seconds, zone_shown_by}
 unfoldable pub use Formats.Shown.{zone_shown, shown_at, abbreviation_held, shown_of}

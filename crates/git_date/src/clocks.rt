@@ -4,6 +4,7 @@ ghost use Rattle.git_date.specs as Spec;
 ghost use Rattle.gix_date.specs as GixDate;
 ghost use Rattle.jiff.specs.Words.{plain_zone};
 
+use crate::zones::offset_in;
 use gix_date::Time;
 use gix_date::clock::{Clock, local_seconds};
 use gix_date::time::{
@@ -105,7 +106,7 @@ pub(crate) fn zone_clock(seconds: i64, zone: TimeZone<'_>) -> Option<Clock>
     let Ok(instant) = Timestamp::from_second(seconds) else {
         unreachable!()
     };
-    let offset = zone.to_offset(instant);
-    let shown = Clock::of(Time::new(seconds, offset.seconds()));
+    let offset = offset_in(zone, seconds, instant);
+    let shown = Clock::of(Time::new(seconds, offset));
     Some(shown.with_offset(known_offset(shown)))
 }

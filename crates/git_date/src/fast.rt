@@ -13,6 +13,11 @@ type Date = (u16, u8, u8);
 /// Hour, minute and second.
 type Clock = (u8, u8, u8);
 
+/// How many bytes `2022-08-18` and `10:00` have.
+const DATE_LEN: usize = 10;
+
+const SHORT_CLOCK_LEN: usize = 5;
+
 /// How many bytes ` Aug 2022`, ` 12:45:06 +0800` and ` 12:45:06 2022 +0800` have.
 const MONTH_YEAR_LEN: usize = 9;
 
@@ -278,6 +283,86 @@ fn fields(date: Date, clock: Clock, offset: i16) -> Fields
         offset: Some(offset),
         epoch: false,
     }
+}
+
+/// The fields of a date alone.
+#[inline(always)]
+fn day_fields(date: Date) -> Fields
+    ensures { result ≡ Spec.day_fields date }
+{
+    Fields {
+        year: Some(date.0),
+        month: Some(date.1),
+        day: Some(date.2),
+        ..Fields::UNKNOWN
+    }
+}
+
+/// Those of a date and a clock without an offset.
+#[inline(always)]
+fn local_fields(date: Date, clock: Clock) -> Fields
+    ensures { result ≡ Spec.local_fields date clock }
+{
+    Fields {
+        hour: Some(clock.0),
+        minute: Some(clock.1),
+        second: Some(clock.2),
+        ..day_fields(date)
+    }
+}
+
+/// The clock of `10:00`.
+#[inline(always)]
+fn short_clock(text: &[u8]) -> Option<Clock>
+    ensures { IfSome result (Spec.WritesShortClock text.now) }
+{
+    match text {
+        [a, b, colon, c, d] if *colon == b':' => {
+            let hour = two(0, 23, *a, *b)?;
+            let minute = two(0, 59, *c, *d)?;
+            Some((hour, minute, 0))
+        }
+        _ => None,
+    }
+}
+
+/// The clock of `10:00` or `10:00:06`.
+#[tactic(auto, using(crate::proofs::Exact::LocalClocks::short_or, crate::proofs::Exact::LocalClocks::or_whole))]
+#[inline(always)]
+fn any_clock(text: &[u8]) -> Option<Clock>
+    ensures { IfSome result (Spec.WritesAnyClock text.now) }
+{
+    if text.len() == SHORT_CLOCK_LEN {
+        short_clock(text)
+    } else {
+        clock(text)
+    }
+}
+
+/// The clock after a space.
+#[inline(always)]
+fn spaced_clock(text: &[u8]) -> Option<Clock>
+    ensures { IfSome result (Spec.WritesSpacedClock text.now) }
+{
+    match text {
+        [space, rest @ ..] if *space == b' ' => any_clock(rest),
+        _ => None,
+    }
+}
+
+/// The fields of `2024-01-05`, `2024-01-05 10:00` or `2024-01-05 10:00:06`, which say no offset.
+#[tactic(auto, using(gix_date::proofs::Text::Ints::held, crate::proofs::Exact::FastTexts::made_says, crate::proofs::Exact::FastTexts::joined, crate::proofs::Exact::LocalClocks::day_says, crate::proofs::Exact::LocalClocks::local_says))]
+#[inline(always)]
+pub(crate) fn local(text: &[u8]) -> Option<Fields>
+    ensures { IfSome result (Spec.SaysFields text.now) }
+{
+    let (front, back) = text.split_at(DATE_LEN.min(text.len()));
+    let date = date(front)?;
+    if back.is_empty() {
+        return Some(day_fields(date));
+    }
+    let clock = spaced_clock(back)?;
+    Some(local_fields(date, clock))
 }
 
 /// The fields of `2022-08-18 12:45:06 +0800`.

@@ -59,3 +59,4 @@ pub use zone_texts::{
     MACHINE_ZONE, TableError, ZONE_FOLDER, offset_from_decimal, offset_to_decimal, parse_offset,
     zone_file, zone_folder, zone_of_text, zone_table, zone_without_file,
 };
+pub use zones::offset_in;

@@ -1,11 +1,12 @@
 //! The reader: one token after the other, and what the whole text says.
-ghost use Rattle.std.specs.Prelude.{◌≡◌, ◌≤◌, length, IfOk, IfSome, Some, None, true, false};
+ghost use Rattle.std.specs.Prelude.{◌≡◌, ◌≤◌, length, IfOk, IfSome, Some, None, true, false, pos};
 ghost use Rattle.git_date.specs as Spec;
+ghost use Rattle.gix_date.specs as GixDate;
 ghost use Rattle.jiff.specs.Words.{plain_zone};
 
 use crate::clocks::is_instant;
 use crate::error::{DateError, Fault};
-use crate::fast::{default, iso8601, iso8601_strict, offset, rfc2822, two};
+use crate::fast::{default, iso8601, iso8601_strict, local, offset, rfc2822, two};
 use crate::fields::Fields;
 use crate::fields::dates::{Now, exact_seconds};
 use crate::fields::digits::{Stepped, digits_rule};
@@ -48,6 +49,16 @@ impl Reading {
         fields: Fields::UNKNOWN,
         ignored: None,
     };
+
+    /// These fields, of a text of which all is used.
+    fn of(fields: Fields) -> Reading
+        ensures { result ≡ record { fields = fields; ignored = None } }
+    {
+        Reading {
+            fields,
+            ignored: None,
+        }
+    }
 
     /// What is read after a step, before which so many bytes were left.
     fn read_on(self, left: usize, next: Option<Fields>) -> Reading
@@ -192,38 +203,33 @@ fn raw(text: &[u8]) -> Option<(u64, i16)>
     Some((seconds, offset))
 }
 
-/// What `1660797906 +0800` says, alone or after `@`.
-#[tactic(auto, using(gix_date::proofs::Text::Ints::held, crate::proofs::Exact::FastSeconds::at_text_is, crate::proofs::Exact::FastSeconds::raw_text_is))]
-fn printed_seconds(text: &[u8]) -> Option<Said>
-    ensures says { IfSome result (Spec.Says text.now) }
-    ensures instant { IfSome result Spec.SaidIsInstant }
+/// The seconds of `1660797906`, alone or after `@`.
+#[tactic(auto, using(crate::proofs::Exact::FastSeconds::at_alone_is, crate::proofs::Exact::FastSeconds::alone_is, crate::proofs::Exact::FastSeconds::alone_instant))]
+#[inline(always)]
+fn seconds_alone(text: &[u8]) -> Option<u64>
+    ensures says { IfSome result (λ n. Spec.Says text.now (Spec.said_alone n)) }
+    ensures instant { IfSome result (λ n. GixDate.is_instant (pos n) ≡ true) }
 {
-    let text = match text {
-        [at, rest @ ..] if *at == b'@' => rest,
-        _ => text,
-    };
-    let (seconds, minutes) = raw(text)?;
-    Some(said_at(seconds as i64, minutes))
+    match text {
+        [at, rest @ ..] if *at == b'@' => seconds(rest),
+        _ => seconds(text),
+    }
 }
 
-/// What `1660797906` says, alone or after `@`.
-#[tactic(auto, using(gix_date::proofs::Text::Ints::held, crate::proofs::Exact::FastSeconds::at_alone_is, crate::proofs::Exact::FastSeconds::alone_is))]
-fn seconds_alone(text: &[u8]) -> Option<Said>
-    ensures says { IfSome result (Spec.Says text.now) }
-    ensures instant { IfSome result Spec.SaidIsInstant }
+/// What seconds say, whose offset the zone has.
+#[tactic(auto, using(gix_date::proofs::Text::Ints::held, crate::proofs::Exact::FastSeconds::instant_fits))]
+#[inline(always)]
+fn said_alone(seconds: u64) -> Said
+    requires { GixDate.is_instant (pos seconds) ≡ true }
+    ensures { result ≡ Spec.said_alone seconds }
 {
-    let text = match text {
-        [at, rest @ ..] if *at == b'@' => rest,
-        _ => text,
-    };
-    let seconds = seconds(text)?;
-    Some(Said {
+    Said {
         seconds: seconds as i64,
         offset: None,
         epoch: true,
         leap: false,
         ignored: None,
-    })
+    }
 }
 
 /// What the fields say that were read. Without a year, a month or a clock Git reads no date.
@@ -289,9 +295,6 @@ pub(crate) fn said_by(now: Timestamp, text: &[u8]) -> Result<Said, DateError>
     ensures value { result ≡ Spec.said_by (Spec.now_at now.nanosecond) text.now }
     ensures instant { IfOk result Spec.SaidIsInstant }
 {
-    if let Some(said) = seconds_alone(text) {
-        return Ok(said);
-    }
     let (string, nul) = up_to_nul(text);
     let said = string_said(now, string)?;
     Ok(Said {
@@ -356,7 +359,33 @@ pub fn parse_date_at(
 fn date_by_tokens(text: &[u8], now: Timestamp, zone: TimeZone<'_>) -> Result<ExactDate, DateError>
     ensures { Spec.DateOutcomeAt now.nanosecond (plain_zone zone.entry) text.now result }
 {
+    if may_be_local(text) {
+        if let Some(answer) = date_without_offset(text, zone) {
+            return answer;
+        }
+    }
     date_said(said_by(now, text), zone)
+}
+
+/// Whether a text has the length of `1660797906`, `2024-01-05`, `2024-01-05 10:00` or `2024-01-05 10:00:06`, and its fifth byte is no
+/// letter.
+#[inline(always)]
+fn may_be_local(text: &[u8]) -> bool {
+    matches!(text.len(), 10 | 11 | 16 | 19) && !text[4].is_ascii_alphabetic()
+}
+
+/// The date in the zone of seconds alone, or of a day and a clock. `None` means only that a text has another form. Apart, so that
+/// other dates do not pay for what it returns.
+#[tactic(auto, using(crate::proofs::Exact::SaidDates::seconds_in, crate::proofs::Exact::SaidDates::fields_in_zone))]
+#[inline(never)]
+fn date_without_offset(text: &[u8], zone: TimeZone<'_>) -> Option<Result<ExactDate, DateError>>
+    ensures { IfSome result (Spec.SaysIn (plain_zone zone.entry) text.now) }
+{
+    if let Some(seconds) = seconds_alone(text) {
+        return Some(date_said(Ok(said_alone(seconds)), zone));
+    }
+    let fields = local(text)?;
+    Some(date_said(fields_said(text, Ok(Reading::of(fields))), zone))
 }
 
 /// The date of a text as Git prints it, the same at each moment and in each zone. `None` means only that a text has another form, or is
@@ -370,9 +399,23 @@ fn printed_date(text: &[u8]) -> Option<ExactDate>
         29 => fields_date(text, default(text)?),
         30 | 31 if text[3] == b',' => fields_date(text, rfc2822(text)?),
         30 => fields_date(text, default(text)?),
-        16 | 17 => said_date(text, printed_seconds(text)?),
+        16 | 17 => raw_date(text),
         _ => None,
     }
+}
+
+/// The date of `1660797906 +0800`, alone or after `@`.
+#[tactic(auto, using(gix_date::proofs::Text::Ints::held, crate::proofs::Exact::FastSeconds::at_text_is, crate::proofs::Exact::FastSeconds::raw_text_is))]
+#[inline(always)]
+fn raw_date(text: &[u8]) -> Option<ExactDate>
+    ensures { IfSome result (Spec.SaysDate text.now) }
+{
+    let after = match text {
+        [at, rest @ ..] if *at == b'@' => rest,
+        _ => text,
+    };
+    let (seconds, minutes) = raw(after)?;
+    said_date(text, said_at(seconds as i64, minutes))
 }
 
 /// The date of the fields that a text says, where they have an offset.
@@ -381,11 +424,7 @@ fn fields_date(text: &[u8], fields: Fields) -> Option<ExactDate>
     requires { Spec.SaysFields text.now fields }
     ensures { IfSome result (Spec.SaysDate text.now) }
 {
-    let reading = Reading {
-        fields,
-        ..Reading::NOTHING
-    };
-    match fields_said(text, Ok(reading)) {
+    match fields_said(text, Ok(Reading::of(fields))) {
         Ok(said) => said_date(text, said),
         Err(_) => None,
     }

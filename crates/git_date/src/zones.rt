@@ -1,13 +1,16 @@
 //! What a zone says of an instant, and Git's search for the instant at which its clock shows a time.
 ghost use Rattle.std.specs.Prelude.{◌≡◌, ◌+ℤ◌, ◌-ℤ◌, ◌^◌, pos, neg_ℤ, true, IfSome, unwrap_or};
 ghost use Rattle.jiff_core.specs.Calendar.{IsBetween, IsWithin};
-ghost use Rattle.jiff.specs.Words.{plain_zone, IsOffsetSeconds};
+ghost use Rattle.jiff.specs.Words.{plain_zone, offset_at, IsOffsetSeconds};
 ghost use Rattle.git_date.specs as Spec;
 ghost use Rattle.gix_date.specs as GixDate;
+
+mod rules;
 
 use crate::clocks::is_instant;
 use jiff::Timestamp;
 use jiff::tz::TimeZone;
+use rules::state_by_rule;
 
 /// What a zone says of an instant.
 #[derive(Clone, Copy)]
@@ -54,6 +57,9 @@ pub(crate) fn state_at(zone: TimeZone<'_>, seconds: i64) -> Option<ZoneState>
     if !is_instant(seconds) {
         return None;
     }
+    if let Some(there) = state_by_rule(zone, seconds) {
+        return Some(there);
+    }
     if let Ok(offset) = zone.to_fixed_offset() {
         return Some(ZoneState {
             offset: offset.seconds(),
@@ -68,6 +74,20 @@ pub(crate) fn state_at(zone: TimeZone<'_>, seconds: i64) -> Option<ZoneState>
         offset: info.offset().seconds(),
         daylight: info.dst().is_dst(),
     })
+}
+
+/// The zone's offset at an instant in this second, in seconds east of UTC: what `jiff` says, which takes longer for a rule.
+#[inline(always)]
+pub fn offset_in(zone: TimeZone<'_>, seconds: i64, instant: Timestamp) -> i32
+    requires within { GixDate.is_instant seconds ≡ true }
+    requires second { Spec.whole_second instant.nanosecond ≡ seconds }
+    ensures value { result ≡ offset_at (plain_zone zone.entry) instant.nanosecond }
+    ensures near { IsOffsetSeconds result }
+{
+    match state_by_rule(zone, seconds) {
+        Some(there) => there.offset,
+        None => zone.to_offset(instant).seconds(),
+    }
 }
 
 /// So many seconds later.

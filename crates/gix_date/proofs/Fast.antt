@@ -7,3 +7,4 @@ pub mod UsualPieces
 pub mod Masks
 pub mod Pairs
 pub mod TenDigits
+pub mod WrittenHeaders

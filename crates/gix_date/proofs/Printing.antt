@@ -11,3 +11,5 @@ pub mod ShownTexts
 pub mod Appended
 pub mod Pairs
 pub mod FormatTable
+pub mod Patterns
+pub mod Seconds

@@ -71,7 +71,7 @@ unfoldable pub use Fields.DateFields.{read_clock, read_rfc2822_clock}
 unfoldable pub use Fields.DateOffsets.{is_jiff_offset, jiff_offset, compact_offset, last_colon_pair, strict_offset, west}
 unfoldable pub use Fields.DateOffsets.{zone_names, named_zone, rfc2822_offset, rfc2822_zone, strict_offset_text}
 unfoldable pub use Fields.FieldTexts.{IsDigit, digit_value, IsField, IsYear, AreDigits, IsPair, IsSign, AreSpaces, AreThreeLetters}
-unfoldable pub use Fields.FieldTexts.{IsDayName, IsMonthName, IsRfc2822Clock, four_digits, date_text, clock_text}
+unfoldable pub use Fields.FieldTexts.{IsDayName, IsMonthName, IsRfc2822Clock, four_digits, ten_digits, date_text, clock_text}
 pub use Fields.FieldTexts.{IsPlainDate, AreMinutes, IsClock, IsDayPrefix}
 unfoldable pub use Fields.Layout.{LocalDate, LocalClock, read_piece, read_pieces, nothing_read, layout_answer, IsPiece, ArePieces}
 unfoldable pub use Fields.Layout.{print_piece, print_pieces}
@@ -99,7 +99,7 @@ unfoldable pub use Header.CanonicalBytes.{are_usual_seconds, are_hours_and_minut
 unfoldable pub use Header.Laws.{CanonicalIffUnchanged, RoundTripsThroughHeader, AreAlike, AreWrittenAlike}
 pub use Header.Laws.{ComesBack}
 unfoldable pub use Header.Reading.{header_seconds, header_offset, time_of_words, header_time, ReadsHeader, ArePairsButSixth}
-pub use Header.Reading.{IsUsualHeader}
+pub use Header.Reading.{IsUsualHeader, IsHeaderLine}
 unfoldable pub use Header.Text.{hundred_hours, max_text_len, written_text, header_text, is_header_text_of, Writes, GivesText}
 unfoldable pub use Header.Text.{text_left}
 unfoldable pub use Header.TimeBuf.{text_in, HoldsText}
@@ -119,6 +119,8 @@ unfoldable pub use Printing.NamedTexts.{git_rfc2822_text, iso8601_pattern, iso86
 unfoldable pub use Printing.NamedTexts.{iso8601_strict_text, gitoxide_pattern, gitoxide_text, default_pattern, default_text}
 unfoldable pub use Printing.NamedTexts.{bare_default_layout, bare_default_text, ShowsText, IsShownByAll}
 pub use Printing.NamedTexts.{ShowsFourDigitFields}
+unfoldable pub use Printing.Patterns.{spaced_day, context_of, strict, StepShows, ShowsLetter}
+pub use Printing.Patterns.{Unseen, ShowsFront}
 unfoldable pub use Printing.PrintedTimes.{PrintsText, IsPrintedAs}
 unfoldable pub use Printing.ReadingBack.{TimesRoundTrip, HasClock, RoundTripsAs, RoundTripsByPattern, IsRuleOffset, midnight_of}
 unfoldable pub use Printing.ReadingBack.{day_read_back, HeaderRoundTrips, SecondsRoundTrip, ShortReadsAsMidnight}

@@ -4,5 +4,6 @@ pub mod Formats
 pub mod NamedTexts
 pub mod NamedFormats
 pub mod PrintedTimes
+pub mod Patterns
 pub mod ReadingBack
 pub mod FormatBuf

@@ -19,8 +19,9 @@ use jiff::civil::DateTime;
 use jiff_core::civil::Date;
 pub use pieces::{
     push_clock, push_colon_offset, push_date, push_day, push_hours, push_minutes, push_month,
-    push_offset, push_two_digits, push_weekday, push_year,
+    push_offset, push_spaced_day, push_two_digits, push_weekday, push_year, usual_header_text,
 };
+pub(crate) use pieces::{letters, push_ascii, push_pair};
 use std::marker::Model;
 pub use texts::{
     push_bare_default, push_default, push_git_rfc2822, push_gitoxide, push_iso8601,

@@ -8,7 +8,7 @@ ghost use Rattle.gix_date.specs as Spec;
 
 pub mod careful;
 pub(crate) mod dates;
-mod fast;
+pub(crate) mod fast;
 mod fields;
 mod fronts;
 mod git;
@@ -19,7 +19,7 @@ mod patterns;
 pub(crate) mod raw;
 mod relative;
 mod shape;
-mod usual;
+pub(crate) mod usual;
 
 use crate::error::Error;
 pub use crate::parsing::dates::parse_no_alloc;

@@ -8,12 +8,13 @@ ghost use Rattle.std.specs.Fmt.{decimal, fmt_error, DisplaysOnOk, DisplaysStyled
 
 pub mod format;
 mod named;
+mod patterns;
 
-use crate::clock::{push_hours, push_minutes};
+use crate::clock::{push_ascii, push_hours, push_minutes, usual_header_text};
 use crate::device::{Sink, put_all};
 use crate::error::Error;
 use arrayvec::ArrayString;
-pub use format::{CustomFormat, Format, FormatBuf};
+pub use format::{CustomFormat, Format, FormatBuf, PatternBuf};
 use jiff::tz::{Offset, TimeZone};
 use jiff::{Timestamp, Zoned};
 use serde::{Deserialize, Serialize};
@@ -59,7 +60,7 @@ pub const LAST_OF_YEAR_9999: SecondsSinceUnixEpoch = 253_402_300_799;
 pub(crate) const MAX_OFFSET_IN_SECONDS: u32 = SECONDS_PER_DAY as u32 - SECONDS_PER_MINUTE as u32;
 
 /// The most bytes that the text of a time has: those of the least seconds with an offset.
-pub(crate) const MAX_TEXT_LEN: usize = 26;
+pub const MAX_TEXT_LEN: usize = 26;
 
 /// An instant in whole seconds, and the offset of the place where it was written down.
 ///
@@ -198,10 +199,23 @@ const fn decimal_len(n: u64) -> usize
     }
 }
 
-/// The header text of a time, where its offset is short of 100 hours.
+/// The header text of a time, where its offset is short of 100 hours. Nearly all have ten digits and six bytes more.
+#[inline(always)]
+pub(crate) fn header_text(time: Time) -> Option<ArrayString<MAX_TEXT_LEN>>
+    ensures { option_map (λ text. text.bytes) result ≡ Spec.header_text time }
+{
+    if let Some(bytes) = usual_header_text(time) {
+        let mut text = ArrayString::new();
+        push_ascii(&mut text, &bytes);
+        return Some(text);
+    }
+    any_header_text(time)
+}
+
+/// The same of any time, for a caller that has tried [`usual_header_text`].
 #[inline(always)]
 #[tactic(auto, unfolding(crate::specs::header_text))]
-pub(crate) fn header_text(time: Time) -> Option<ArrayString<MAX_TEXT_LEN>>
+pub fn any_header_text(time: Time) -> Option<ArrayString<MAX_TEXT_LEN>>
     ensures { option_map (λ text. text.bytes) result ≡ Spec.header_text time }
 {
     let distance = time.offset.unsigned_abs();

@@ -2,6 +2,7 @@ mod Blocks
 mod Boxed
 mod Kept
 mod Modes
+mod Instants
 mod Named
 mod Pieces
 mod Printed

@@ -41,7 +41,7 @@ owned alloc text short is_text = record {
 }
 
 -- so a text is printed if each owned text with its bytes is
-pub text-printed : (IsResult : Result (String Global) Error → Type 0) (alloc : Global) (text : List ℕ) → length text ≤ 31
+pub text-printed : (IsResult : Result (String Global) Error → Type 0) (alloc : Global) (text : List ℕ) → length text ≤ 120
     → IsUtf8 text → ((s : String Global) → string_bytes s ≡ text → IsResult (Ok s)) → IsPrinted IsResult (Ok text)
 unfolding owned
 text-printed IsResult alloc text short is_text prints =

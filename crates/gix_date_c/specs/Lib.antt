@@ -31,7 +31,7 @@ unfoldable pub use Idents.{ident_line_answer, as_is_answer}
 unfoldable pub use Laws.{HasMomentsOf, HasPlacesOf, AreCopiesNamed, time_at, HoldsLine, LinesAreTexts, PartsStand}
 unfoldable pub use Laws.{IdentLinesAreTold}
 pub use Laws.{HoldsIdent}
-pub use Lines.Blocks.{AreFirstLines, DoesLines, IsChecked, ChecksLines}
+pub use Lines.Blocks.{AreFirstLines, DoesLines, IsFirstRead, IsChecked, ChecksLines}
 unfoldable pub use Lines.Columns.{room_of, changed, seconds_after, offset_after, status_after, columns_after, with_answer}
 pub use Lines.Columns.{Columns}
 unfoldable pub use Lines.Idents.{lesser_room, ident_room, placed_lines, span_in_block, parts_in_block, answer_in_block}

@@ -214,9 +214,6 @@ pub extern "C" fn gix_date_fsck(text: &[u8], place: &mut usize) -> u32
     ensures message { result ≡ Spec.fsck_number (GixSignature.fsck_of text.now) }
     ensures place { place.new ≡ Spec.fsck_place (GixSignature.fsck_of text.now) place.old }
 {
-    if usual_ident(text).is_some() {
-        return 0;
-    }
     match fsck_of(text) {
         Some(fault) => {
             *place = fault.place;

@@ -2,6 +2,7 @@
 ghost use Rattle.std.specs.Prelude.{◌≡◌, ◌⊎◌, ◌≤◌, ◌<◌, length, [], MatchOption, Result, Some, None};
 ghost use Rattle.jiff.specs.declared.zoned.Zoned.{Zoned};
 ghost use Rattle.gix_date_c.specs.declared.values.status.Status.{Status};
+ghost use Rattle.gix_date_c.specs.declared.lines.reader.LineReader.TheVariants.{Header};
 ghost use Rattle.gix_date_c.specs as Spec;
 ghost use Rattle.streams.specs as Streams;
 
@@ -10,13 +11,15 @@ mod idents;
 pub(crate) mod reader;
 
 use crate::careful::CCarefulOptions;
-use crate::header::is_canonical;
+use crate::header::{header_time, is_canonical};
 use crate::lines::columns::{room, store_answer};
-use crate::lines::reader::{LineReader, line_reader};
+use crate::lines::reader::{LineReader, for_c, line_reader};
 use crate::moment::CInstant;
+use crate::values::status::Status;
+use crate::values::time::{CTime, time_for_c};
 use crate::zone::ShownZone;
 use streams::first_line;
-use streams::usual::canonical_line;
+use streams::usual::{canonical_line, usual_line_time};
 
 /// Reads each line of a block by the reader of a number. What is relative to a moment is refused.
 #[unsafe(no_mangle)]
@@ -96,8 +99,8 @@ pub(crate) fn read_lines(
     let room = room(seconds, offsets, statuses);
     let mut left = block;
     let mut done = 0;
-    'lines: while let Some((line, after)) = next_line(left, done, room) {
-        store_answer(done, reader.read(line), seconds, offsets, statuses);
+    'lines: while let Some((answer, after)) = next_read(reader, left, done, room) {
+        store_answer(done, answer, seconds, offsets, statuses);
         left = after;
         done += 1;
     }
@@ -116,6 +119,59 @@ fn next_line(left: &[u8], done: usize, room: usize) -> Option<(&[u8], &[u8])>
         return None;
     }
     first_line(left)
+}
+
+/// What the next line says, and the bytes after it, where there is one, and room for it.
+#[inline(always)]
+fn next_read<'b>(
+    reader: &LineReader<'_>,
+    left: &'b [u8],
+    done: usize,
+    room: usize,
+) -> Option<(Result<CTime, Status>, &'b [u8])>
+    requires { done ≤ room }
+    ensures { MatchOption result ((left.now ≡ []) ⊎ (done ≡ room))
+        (λ found. (done < room) × Spec.IsFirstRead (Spec.IsLineRead reader.now) left.now found.0 found.1.now) }
+{
+    if done == room {
+        return None;
+    }
+    first_read(reader, left)
+}
+
+/// What the first line says, and the bytes after it.
+#[tactic(auto, using(crate::proofs::Blocks::Steps::header_reader))]
+#[inline(always)]
+fn first_read<'b>(
+    reader: &LineReader<'_>,
+    bytes: &'b [u8],
+) -> Option<(Result<CTime, Status>, &'b [u8])>
+    ensures { MatchOption result (bytes.now ≡ [])
+        (λ found. Spec.IsFirstRead (Spec.IsLineRead reader.now) bytes.now found.0 found.1.now) }
+{
+    if let LineReader::Header = reader {
+        return first_header(bytes);
+    }
+    match first_line(bytes) {
+        Some((line, after)) => Some((reader.read(line), after)),
+        None => None,
+    }
+}
+
+/// What the first line says as a header, and the bytes after it. Of nearly all headers the first bytes tell both.
+#[tactic(auto, using(crate::proofs::Blocks::Steps::header_read))]
+#[inline(always)]
+fn first_header(bytes: &[u8]) -> Option<(Result<CTime, Status>, &[u8])>
+    ensures { MatchOption result (bytes.now ≡ [])
+        (λ found. Spec.IsFirstRead (Spec.IsLineRead Header) bytes.now found.0 found.1.now) }
+{
+    if let Some((time, after)) = usual_line_time(bytes) {
+        return Some((Ok(time_for_c(time)), after));
+    }
+    match first_line(bytes) {
+        Some((line, after)) => Some((for_c(header_time(line)), after)),
+        None => None,
+    }
 }
 
 /// Whether the next line comes back, and the bytes after it, where there is one, and room for it.

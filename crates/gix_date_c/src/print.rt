@@ -19,7 +19,7 @@ use git_date::{
     BriefText, DateFormat, FormatFault, ShortText, ShowError, text_by_format_brief,
     text_by_format_in_zone, text_by_format_short,
 };
-use gix_date::time::format::{Format, format_numbered};
+use gix_date::time::format::{Format, PatternBuf, format_numbered};
 use gix_date::{Error, Time};
 use jiff::tz::TimeZone;
 use std::alloc::Global;
@@ -161,12 +161,48 @@ fn put_by_pattern(
         Err(status) => return store_text(Err(status), out, len),
     };
     let time = load_time(time);
+    if !may_be_named(pattern) {
+        return put_unnamed(alloc, time, pattern, or_unix, out, len);
+    }
     let printed = time.format_by_pattern_to_buf(pattern);
     match &printed {
         Some(text) => store_text(Ok(text.as_str()), out, len),
-        None if or_unix => store_printed(time.format_by_pattern_or_unix(alloc, pattern), out, len),
-        None => store_printed(time.format_by_pattern(alloc, pattern), out, len),
+        None => put_unnamed(alloc, time, pattern, or_unix, out, len),
     }
+}
+
+/// Whether a pattern may be that of a named format: it has the length of one, and its last byte, or the third of a day's.
+#[inline(always)]
+fn may_be_named(pattern: &str) -> bool {
+    let bytes = pattern.as_bytes();
+    match bytes.len() {
+        8 => bytes[2] == b'-',
+        20..=25 => bytes[bytes.len() - 1] == b'z',
+        _ => false,
+    }
+}
+
+/// The same by a pattern that no named format has, or of a time that no such format prints. By itself, since it takes a text
+/// of its own.
+#[inline(never)]
+fn put_unnamed(
+    alloc: Global,
+    time: Time,
+    pattern: &str,
+    or_unix: bool,
+    out: &mut [u8],
+    len: &mut usize,
+) -> u32
+    ensures { Spec.Puts (Spec.IsPrinted (Spec.PrintsPatternSo or_unix time pattern.now)) out.old out.new len.new result }
+{
+    let mut short = PatternBuf::new();
+    if time.format_by_pattern_short(pattern, &mut short) {
+        return store_text(Ok(short.as_str()), out, len);
+    }
+    if or_unix {
+        return store_printed(time.format_by_jiff_or_unix(alloc, pattern), out, len);
+    }
+    store_printed(time.format_by_jiff(alloc, pattern), out, len)
 }
 
 /// Stores what was printed.

@@ -1,15 +1,19 @@
 -- What was sent of the reply to a line.
 use Rattle.std.proofs.Common.{◌≡◌, ◌∙◌, ℕ, List, [], ◌∷◌, ◌++◌, Bool, true, false, cond, Some, None, Result, refl, sym, ap}
-use Rattle.std.proofs.Common.{subst, append_assoc, arith}
-use Rattle.std.proofs.lemmas.Str.{is_utf8-from_IsUtf8}
+use Rattle.std.proofs.Common.{subst, append_assoc, arith, lit<}
+use Rattle.std.proofs.lemmas.Str.{IsAscii-append, IsUtf8-from_ascii, is_utf8-from_IsUtf8}
+use Rattle.std.proofs.lemmas.Str.Ascii.{IsAscii-cons, IsAscii-nil}
+use Rattle.std.specs.Str.{IsAscii}
 use Rattle.std.specs.Prelude.{IsUtf8, codes, nat_lt, unsigned_abs}
 use Rattle.std.specs.declared.io.ErrorKind.{ErrorKind}
 use Rattle.gix_date.proofs.Text.Texts.{no_text}
+use Rattle.gix_date.specs.Families.Answer.{Absolute}
 use Rattle.gix_date.specs.Families.Order.{first_family}
 use Rattle.gix_date.specs.Header.Text.{header_text, hundred_hours, written_text}
 use Rattle.gix_date.specs.Text.Characters.{newline, space}
 use Rattle.gix_date.specs.Text.Numbers.{decimal_text}
 use Rattle.gix_date.specs.declared.time.Time.{Time}
+use Rattle.jiff.specs.Words.{IsOffsetSeconds}
 use Rattle.streams.specs.Outbox.{Output, Sends}
 use Rattle.gix_date_tool.specs.declared.program.arguments.Mode.{Mode}
 use Rattle.gix_date_tool.specs.declared.program.arguments.Mode.TheVariants.{Check, Parse, Sign}
@@ -17,7 +21,8 @@ use Rattle.gix_date_tool.specs.declared.runs.replies.Query.{Query}
 use Rattle.gix_date_tool.specs.declared.runs.replies.Reply.{Reply}
 use Rattle.gix_date_tool.specs.declared.runs.replies.Reply.TheVariants.{NotText, Read, Parsed, DateConversion}
 use Rattle.gix_date_tool.specs.Replies.{IsParseReply, IsReply, IsReplyTo, IsSignReply, IsTextReply, check_reply, reply_line}
-use Rattle.gix_date_tool.specs.Run.{SendsReply}
+use Rattle.gix_date_tool.specs.Run.{SendsReply, SendsSome}
+use Rattle.gix_date_tool.proofs.Replying.{parsed_is}
 use Rattle.gix_date_tool.proofs.Serving.{Replied-one}
 
 abbrev Sent : Type 0
@@ -40,6 +45,12 @@ held-text t text h = by (nat_lt (unsigned_abs t.offset) hundred_hours) h
 pub time_sent : (a b : Output) (t : Time) (text : List ℕ) (r : Sent) → header_text t ≡ Some text → Sends a b (text ++ newline ∷ []) r
     → Sends a b (reply_line (Parsed t)) r
 time_sent a b t text r is h = subst (λ text. Sends a b (text ++ newline ∷ []) r) (held-text t text is) h
+
+-- a line of ASCII is text
+pub line_text : (line text : List ℕ) → line ≡ text → IsAscii text → IsUtf8 (line ++ newline ∷ [])
+line_text line text is ascii =
+    let whole = IsAscii-append text (newline ∷ []) ascii (IsAscii-cons newline [] (lit< tt) IsAscii-nil) in
+    subst (λ (t : List ℕ). IsUtf8 (t ++ newline ∷ [])) (sym is) (IsUtf8-from_ascii (text ++ newline ∷ []) whole)
 
 -- the pieces of a reading, one after the other
 abbrev pieces_of : List ℕ → List ℕ → List ℕ
@@ -69,19 +80,25 @@ unfolding SendsReply
 check_sent a b query text line reply r same mode is_text h sent =
     Replied-one {Is = λ text. Sends a b text r} query line reply (text-reply query Check text line reply same mode is_text h) sent
 
-pub parse_sent : (a b : Output) (query : Query) (text line : List ℕ) (reply : Reply) (r : Sent) → text ≡ line → query.mode ≡ Parse
-    → IsUtf8 line
-    → IsParseReply (first_family text) query.now reply → Sends a b (reply_line reply) r → SendsReply a b query line r
+pub parse_sent : (a b : Output) (query : Query) (text line : List ℕ) (r : Sent) → text ≡ line → query.mode ≡ Parse → IsUtf8 line
+    → SendsSome (IsParseReply (first_family text) query.now) a b r → SendsReply a b query line r
 unfolding SendsReply
-parse_sent a b query text line reply r same mode is_text h sent =
-    Replied-one {Is = λ text. Sends a b text r} query line reply (text-reply query Parse text line reply same mode is_text h) sent
+parse_sent a b query text line r same mode is_text h =
+    Replied-one {Is = λ text. Sends a b text r} query line h.0 (text-reply query Parse text line h.0 same mode is_text h.1) h.2
 
-pub sign_sent : (a b : Output) (query : Query) (text line : List ℕ) (reply : Reply) (r : Sent) → text ≡ line → query.mode ≡ Sign
-    → IsUtf8 line
-    → IsSignReply text reply → Sends a b (reply_line reply) r → SendsReply a b query line r
+-- of a usual date
+pub usual_sent : (a b : Output) (query : Query) (text line : List ℕ) (t : Time) (r : Sent) → text ≡ line → query.mode ≡ Parse → IsUtf8 line
+    → first_family text ≡ Some (Absolute t) → IsOffsetSeconds t.offset → Sends a b (reply_line (Parsed t)) r → SendsReply a b query line r
+usual_sent a b query text line t r same mode is_text first fits sent =
+    let reply = subst (λ family. IsParseReply family query.now (Parsed t)) (sym first)
+    (parsed_is (Some (Absolute t)) query.now t refl fits) in
+    parse_sent a b query text line r same mode is_text (Parsed t, reply, sent)
+
+pub sign_sent : (a b : Output) (query : Query) (text line : List ℕ) (r : Sent) → text ≡ line → query.mode ≡ Sign → IsUtf8 line
+    → SendsSome (IsSignReply text) a b r → SendsReply a b query line r
 unfolding SendsReply
-sign_sent a b query text line reply r same mode is_text h sent =
-    Replied-one {Is = λ text. Sends a b text r} query line reply (text-reply query Sign text line reply same mode is_text h) sent
+sign_sent a b query text line r same mode is_text h =
+    Replied-one {Is = λ text. Sends a b text r} query line h.0 (text-reply query Sign text line h.0 same mode is_text h.1) h.2
 
 -- the reply to a line that is not
 pub not_text_sent : (a b : Output) (query : Query) (line : List ℕ) (r : Sent) → (IsUtf8 line → ⊥) → Sends a b (reply_line NotText) r

@@ -16,7 +16,8 @@ unfoldable pub use Replies.{kind_reply, check_reply, unknown_reply, parse_reply,
 unfoldable pub use Replies.{IsTextReply, IsReplyTo, IsReply, reply_text, reply_line, reply_lines, AreReplies, RepliesAreUnique}
 unfoldable pub use Replies.{CanonicalLines, UnchangedLines}
 pub use Replies.{Replied}
-unfoldable pub use Run.{IsReplyText, IsMomentOf, IsEnd, Runs, output_of, SendsReplies, SendsReply, RepliesTo, RepliesToFront}
+unfoldable pub use Run.{IsReplyText, IsMomentOf, IsEnd, Runs, output_of, SendsReplies, SendsSome, SendsReply, RepliesTo}
+unfoldable pub use Run.{RepliesToFront}
 pub use Served.{no_lines, more_lines}
 unfoldable pub use Signed.{IsUnsigned}
 pub use Signed.{IsSigned, IsCanonicalLine}

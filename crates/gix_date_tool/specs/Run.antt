@@ -9,7 +9,8 @@ use Rattle.jiff.specs.declared.zoned.Zoned.{Zoned}
 use Rattle.gix_date_tool.specs.declared.program.arguments.Mode.{Mode}
 use Rattle.gix_date_tool.specs.declared.runs.replies.Query.{Query}
 use Rattle.gix_date_tool.specs.declared.runs.serving.Replying.{Replying}
-use Rattle.gix_date_tool.specs.Replies.{Replied}
+use Rattle.gix_date_tool.specs.declared.runs.replies.Reply.{Reply}
+use Rattle.gix_date_tool.specs.Replies.{Replied, reply_line}
 use Rattle.streams.specs.Changes.{Change}
 use Rattle.streams.specs.Outbox.{Output, Puts, PutsProperPrefix, Sends, output}
 use Rattle.streams.specs.Serving.{Answer, Ran, ServesFront, Service, fault_of}
@@ -53,6 +54,10 @@ abbrev pub SendsReplies : Output → Output → List ℕ → Answer → Type 0
 SendsReplies old new text (Ok _) = Puts old new text
 SendsReplies old new text (Err (errors.Write kind)) = PutsProperPrefix old new text kind
 SendsReplies old new text (Err _) = ⊥
+
+-- what sending a reply of which this is known came to
+abbrev pub SendsSome : (Reply → Type 0) → Output → Output → Result (Unit {0}) ErrorKind → Type 0
+SendsSome Is old new result = (reply : Reply) × Is reply × Sends old new (reply_line reply) result
 
 -- what sending the reply to one line came to
 unfoldable pub SendsReply : Output → Output → Query → List ℕ → Result (Unit {0}) ErrorKind → Type 0

@@ -1,8 +1,14 @@
 -- A line has one cut at most.
 use Rattle.std.proofs.Common.{arith}
 use Rattle.std.proofs.Common.{◌≡◌, ◌∙◌, ℕ, Bool, true, false, not, ◌||◌, ◌==◌, List, [], ◌∷◌, ◌++◌, drop, get_or, refl, ap, sym}
-use Rattle.std.proofs.Common.{append_assoc}
+use Rattle.std.proofs.Common.{append_assoc, ◌+◌, ◌<◌, take, length, length-append, subst}
+use Rattle.std.proofs.lemmas.Grind.{common_steps}
+use Rattle.std.proofs.lemmas.Str.{IsCharBoundary-after_ascii, IsCharBoundary-at_seam}
+use Rattle.std.proofs.lemmas.Str.{IsUtf8-append, IsUtf8-from_ascii, IsUtf8-take, IsUtf8-drop}
+use Rattle.std.proofs.lemmas.Str.Ascii.{IsAscii-nil, IsAscii-cons}
+use Rattle.std.specs.Str.{IsUtf8}
 use Rattle.std.proofs.lemmas.Bool.{and_from, and_parts}
+use Rattle.std.proofs.lemmas.Bool.Decides.{nat_tests}
 use Rattle.std.proofs.lemmas.List.{append_cancel_right}
 use Rattle.std.proofs.lemmas.List.Folds.{list_all-append}
 use Rattle.std.specs.List.{list_all}
@@ -58,30 +64,61 @@ plain p h = grind (arith, and_parts)
 pub marked : (name rest : List ℕ) → name ++ (codes " <" ++ rest) ≡ (name ++ (32 ∷ [])) ++ (opening ∷ rest)
 marked name rest = sym (append_assoc name (32 ∷ []) (opening ∷ rest))
 
--- where ` <` stands in a line that has a cut, the line is cut
-pub the-front : (line name rest : List ℕ) (q : Parts) → line ≡ name ++ (codes " <" ++ rest) → IsCut line q
-    → (name ≡ q.name) × (rest ≡ after_name q)
-the-front line name rest q whole cut =
+-- where its first bracket stands in a line that has a cut, the line is cut
+pub the-front : (line front inside : List ℕ) (q : Parts) → line ≡ front ++ (opening ∷ inside) → IsCut line q
+    → (front ≡ q.name ++ (32 ∷ [])) × (inside ≡ after_name q)
+the-front line front inside q whole cut =
     let are = plain q cut.allowed in
-    let blank : List ℕ = 32 ∷ [] in
-    let same : (name ++ blank) ++ (opening ∷ rest) ≡ (q.name ++ blank) ++ (opening ∷ after_name q) =
-    sym (marked name rest) ∙ sym whole ∙ cut.whole ∙ marked q.name (after_name q) in
     let after : list_all not_opening (codes "> " ++ q.time) ≡ true = no-opening q.time are.time in
-    let at = one-place not_opening opening (name ++ blank) rest (q.name ++ blank) (after_name q) refl
-    (all-append not_opening q.name blank (no-opening q.name are.name) refl)
+    one-place not_opening opening front inside (q.name ++ (32 ∷ [])) (after_name q) refl
+    (all-append not_opening q.name (32 ∷ []) (no-opening q.name are.name) refl)
     (all-append not_opening q.email (codes "> " ++ q.time) (no-opening q.email are.email) after)
-    same in
-    (append_cancel_right name q.name blank at.0, at.1)
+    (sym whole ∙ cut.whole ∙ marked q.name (after_name q))
+
+-- and where its next bracket does
+pub the-rest : (inside email rest : List ℕ) (q : Parts) → inside ≡ email ++ (closing ∷ rest) → ArePlain q → inside ≡ after_name q
+    → (email ≡ q.email) × (rest ≡ 32 ∷ q.time)
+the-rest inside email rest q whole are same =
+    one-place is_allowed closing email rest q.email (32 ∷ q.time) refl are.email are.time (sym whole ∙ same)
 
 -- where its marks stand in a line that has a cut, the line is cut, whatever stands between them
 pub the_cut : (line : List ℕ) (p q : Parts) → line ≡ line_of p → IsCut line q → p ≡ q
 the_cut line p q whole cut =
     let are = plain q cut.allowed in
-    let front = the-front line p.name (after_name p) q whole cut in
-    let at = one-place is_allowed closing p.email (32 ∷ p.time) q.email (32 ∷ q.time) refl are.email are.time front.1 in
-    let times : p.time ≡ q.time = ap (drop 1) at.1 in
-    (λ i. record { name = front.0 i; email = at.0 i; time = times i })
+    let blank : List ℕ = 32 ∷ [] in
+    let front = the-front line (p.name ++ blank) (after_name p) q (whole ∙ marked p.name (after_name p)) cut in
+    let rest = the-rest (after_name p) p.email (32 ∷ p.time) q refl are front.1 in
+    let names = append_cancel_right p.name q.name blank front.0 in
+    let times : p.time ≡ q.time = ap (drop 1) rest.1 in
+    (λ i. record { name = names i; email = rest.0 i; time = times i })
 
 -- a line that is taken apart at its marks into what may not stand has no cut
 pub no-cut : (line : List ℕ) (p : Parts) → line ≡ line_of p → are_parts p ≡ false → (q : Parts) → IsCut line q → ⊥
 no-cut line p whole bad q cut = grind (arith, the_cut)
+
+-- where ASCII stands between two texts, both are UTF-8
+pub around_ascii : (text xs ys : List ℕ) (c : ℕ) → c < 128 → text ≡ xs ++ (c ∷ ys) → IsUtf8 text → IsUtf8 xs × IsUtf8 ys
+around_ascii text xs ys c small whole utf8 =
+    let n = length xs in
+    let long : length text ≡ n + length (c ∷ ys) = ap (λ (l : List ℕ). length l) whole ∙ length-append xs (c ∷ ys) in
+    let here : get_or text n 0 < 128 = grind (arith, common_steps, whole, small) in
+    let after : IsUtf8 (drop (n + 1) text) =
+    IsUtf8-drop text (n + 1) utf8 (IsCharBoundary-after_ascii text n utf8 (omega (arith, long)) here) in
+    let behind : drop (n + 1) text ≡ ys = grind (arith, common_steps, whole) in
+    let rest : IsUtf8 ys = subst IsUtf8 behind after in
+    let more : IsUtf8 (c ∷ ys) = IsUtf8-append (c ∷ []) ys (IsUtf8-from_ascii (c ∷ []) (IsAscii-cons c [] small IsAscii-nil)) rest in
+    let before : take n text ≡ xs = grind (arith, common_steps, whole) in
+    (subst IsUtf8 before (IsUtf8-take text n utf8 (IsCharBoundary-at_seam text xs (c ∷ ys) whole more)), rest)
+
+-- a part that is empty, or holds a byte that may stand in none, is no line's time
+no-true : (b : Bool) → b ≡ true → b ≡ false → ⊥
+no-true true h k = absurd cc
+no-true false h k = absurd cc
+
+pub bad_time : (time : List ℕ) (q : Parts) → time ≡ q.time → are_parts q ≡ true → is_part time ≡ false → ⊥
+bad_time time q same are bad = no-true (is_part q.time) (plain q are).time (ap is_part (sym same) ∙ bad)
+
+pub no_time : (time : List ℕ) (q : Parts) → time ≡ q.time → are_parts q ≡ true → true ≡ (length time == 0) → ⊥
+no_time time q same are none =
+    let empty : (length q.time == 0) ≡ true = ap (λ (l : List ℕ). length l == 0) (sym same) ∙ sym none in
+    grind (arith, nat_tests, and_parts, are, empty)

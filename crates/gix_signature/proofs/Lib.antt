@@ -1,5 +1,6 @@
 pub mod Idents
 pub mod Cuts
+pub mod Runs
 pub mod Pieces
 pub mod Written
 pub mod SignatureRows

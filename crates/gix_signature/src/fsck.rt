@@ -8,6 +8,7 @@ use crate::ident::bytes::{
     after_first, after_one, are_digits, begins_with, begins_with_nul, begins_with_sign,
     bracket_place, last_spaces_len, line_len, place_of,
 };
+use crate::ident::usual::usual_ident;
 use crate::ident::{TOO_MANY_SECONDS, c_number};
 
 /// A message of `git fsck`, named as its ID there.
@@ -51,8 +52,20 @@ pub struct FsckFault {
 ///
 /// The line ends before the first line feed, or is all. Git reads a number also in the next line where this one ends
 /// after `> `; here that is [`FsckId::BadDate`]. Takes no memory.
-#[tactic(auto, using(crate::proofs::Idents::Judged::nul_found, crate::proofs::Idents::Judged::without_nul, crate::proofs::Idents::Judged::judged))]
+#[inline(always)]
 pub fn fsck_of(text: &[u8]) -> Option<FsckFault>
+    ensures { result ≡ Spec.fsck_of text.now }
+{
+    if usual_ident(text).is_some() {
+        return None;
+    }
+    fault_in(text)
+}
+
+/// The same, of any line.
+#[inline(never)]
+#[tactic(auto, using(crate::proofs::Idents::Judged::nul_found, crate::proofs::Idents::Judged::without_nul, crate::proofs::Idents::Judged::judged))]
+fn fault_in(text: &[u8]) -> Option<FsckFault>
     ensures { result ≡ Spec.fsck_of text.now }
 {
     let (line, rest) = text.split_at(line_len(text));

@@ -16,6 +16,7 @@ pub mod ident;
 pub mod laws;
 mod lines;
 pub mod object;
+mod parts;
 
 pub use error::{IdentFault, SignatureError};
 pub use fsck::{FsckFault, FsckId, fsck_of};

@@ -3,13 +3,16 @@ ghost use Rattle.std.specs.Prelude.{◌≡◌, ℕ, List, MatchOption, OnOk, fil
 ghost use Rattle.gix_signature.specs as Spec;
 ghost use Rattle.gix_date.specs as GixDate;
 ghost use Rattle.std.specs.List.{list_all};
+ghost use Rattle.std.specs.Str.{IsUtf8};
 
 use crate::error::{IdentFault, SignatureError};
 use crate::ident::GitTime;
 use crate::ident::bytes::{after_one, crud_len, has_nul, is_crud, kept_len, last_crud_len};
+use crate::ident::written::after;
+use crate::parts::{before_last_space, cut_part, is_part};
 use gix_date::device::{Sink, put_all};
 use gix_date::{Time, parse_header};
-use std::io;
+use std::{io, str};
 
 /// The parts of a signature line, each the slice of the line at its place.
 #[derive(Debug, Clone, Copy)]
@@ -40,30 +43,32 @@ impl<'a> SignatureRef<'a> {
     {
         parse_header(self.time)
     }
-
-    /// Whether these may be the parts of a line.
-    fn are_allowed(self) -> bool
-        ensures { result ≡ Spec.are_parts (Spec.parts_of self.entry) }
-    {
-        is_part(self.name.as_bytes())
-            && is_part(self.email.as_bytes())
-            && is_part(self.time.as_bytes())
-            && !self.time.is_empty()
-    }
 }
 
-/// Cuts a line at its first ` <` and the first `> ` after it, if its parts may stand there.
+/// Cuts a line at its brackets, if what stands between them may stand there.
 fn cut_line(line: &str) -> Option<SignatureRef<'_>>
     ensures { MatchOption result (Spec.HasNoCut line.now) (λ s. Spec.IsCut line.now (Spec.parts_of s)) }
 {
-    let (name, rest) = line.split_once(" <")?;
-    let (email, time) = rest.split_once("> ")?;
-    let parts = SignatureRef { name, email, time };
-    if parts.are_allowed() {
-        Some(parts)
-    } else {
-        None
+    let (front, inside) = cut_part(line.as_bytes(), b'<')?;
+    let name = before_last_space(front)?;
+    let (email, rest) = cut_part(inside, b'>')?;
+    let time = after(rest, b" ")?;
+    if time.is_empty() || !is_part(time) {
+        return None;
     }
+    Some(SignatureRef {
+        name: text_of(name),
+        email: text_of(email),
+        time: text_of(time),
+    })
+}
+
+/// Bytes as a text, where they are one.
+fn text_of(part: &[u8]) -> &str
+    requires { IsUtf8 part.now }
+    ensures { result.now ≡ part.now }
+{
+    unsafe { str::from_utf8_unchecked(part) }
 }
 
 /// Writes a signature line, without a newline: the name, ` <`, the email, `> `, and the time as [`Time::write_to`]
@@ -94,20 +99,6 @@ pub fn write_line<W: Sink>(
     put_parts(name.as_bytes(), email.as_bytes(), buf.as_str(), true, out).map_err(
         SignatureError::Write,
     )
-}
-
-/// Whether a text may be a part of a line.
-pub(crate) fn is_part(text: &[u8]) -> bool
-    ensures { result ≡ Spec.is_part text.now }
-{
-    text.iter().all(|b| is_allowed(*b))
-}
-
-/// Whether a byte may stand in a part of a line.
-pub(crate) fn is_allowed(byte: u8) -> bool
-    ensures { result ≡ Spec.is_allowed byte }
-{
-    !matches!(byte, b'<' | b'>' | b'\n' | b'\0')
 }
 
 /// Writes an identity line of parts as they are, without a newline: the name, ` <`, the email, `> `, and the time as

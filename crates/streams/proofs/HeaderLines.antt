@@ -11,10 +11,12 @@ use Rattle.std.specs.List.{list_all}
 use Rattle.std.specs.Prelude.{◌==◌, ◌&&◌, ◌||◌, not, nat_lt}
 use Rattle.gix_date.specs.Header.Canonical.{is_canonical_header}
 use Rattle.gix_date.specs.Header.CanonicalBytes.{are_usual_seconds, are_hours_and_minutes, is_usual_offset}
+use Rattle.gix_date.specs.Header.Reading.{IsHeaderLine}
+use Rattle.gix_date.specs.declared.time.Time.{Time}
 use Rattle.gix_date.specs.Text.Characters.{newline, space, plus, minus, digit_zero}
 use Rattle.gix_date.proofs.Fast.CanonicalBytes.{usual_canonical}
 use Rattle.streams.specs.Lines.{IsLine, with_newline}
-use Rattle.streams.specs.Usual.{BeginsWithHeader, BeginsWithUnknown, HasHeaderInFront}
+use Rattle.streams.specs.Usual.{BeginsWithHeader, BeginsWithTime, BeginsWithUnknown, HasHeaderInFront}
 
 -- digits, few and the first no zero, are seconds
 pub few_are_seconds : (ds : List ℕ) → 1 ≤ length ds → length ds ≤ 16 → list_all is_ascii_digit ds ≡ true → get_or ds 0 0 ≢ 48
@@ -119,6 +121,15 @@ header_is_line bytes rest after h e = record {
 pub header_is_all : (bytes rest : List ℕ) → HasHeaderInFront bytes rest → rest ≡ [] → is_canonical_header bytes ≡ true
 header_is_all bytes rest h e =
     ap is_canonical_header (h.whole ∙ ap (λ xs. h.header ++ xs) e ∙ append-nil h.header) ∙ h.is_canonical
+
+-- a header of a time before a newline is a line
+pub time_is_line : (bytes line rest after : List ℕ) (t : Time) → bytes ≡ line ++ rest → rest ≡ newline ∷ after → IsHeaderLine line t
+    → BeginsWithTime bytes t after
+time_is_line bytes line rest after t cut e h = record {
+  line = line;
+  whole = cut ∙ ap (λ xs. line ++ xs) e ∙ sym (append_assoc line (newline ∷ []) after);
+  is_header = h;
+}
 
 zero-line : IsLine (codes " -0000")
 zero-line =

@@ -24,4 +24,4 @@ pub use Progress.{Held, Stage, IsReady, TakesAll, Takes, Extends, TakesIn, Takes
 unfoldable pub use Serving.{service, Answer, ServesLines, Stays, Joins, ServesFront, StopsAt, Unserved, EndsAt, answer_of}
 unfoldable pub use Serving.{fault_of, is_refused}
 pub use Serving.{Service, Front, GoesOn, Reached, IsWhole, Succeeded, Unread, Stopped, Ran}
-pub use Usual.{HasHeaderInFront, BeginsWithHeader, BeginsWithUnknown}
+pub use Usual.{HasHeaderInFront, BeginsWithHeader, BeginsWithTime, BeginsWithUnknown}

@@ -2,6 +2,8 @@
 use Rattle.std.specs.Prelude.{◌≡◌, ◌≤◌, ℕ, true, List, ◌++◌, codes, length}
 use Rattle.gix_date.specs.Header.Canonical.{is_canonical_header}
 use Rattle.gix_date.specs.Header.CanonicalBytes.{are_usual_seconds}
+use Rattle.gix_date.specs.Header.Reading.{IsHeaderLine}
+use Rattle.gix_date.specs.declared.time.Time.{Time}
 use Rattle.streams.specs.Lines.{IsLine, with_newline}
 use Rattle.streams.specs.declared.usual.TheConstants.{MAX_HEADER}
 
@@ -20,6 +22,12 @@ pub record BeginsWithHeader (input after : List ℕ) : Type 0 where
   pub is_line : IsLine line
   pub is_canonical : is_canonical_header line ≡ true
   pub is_short : length line ≤ MAX_HEADER
+
+-- the input begins with a line that is a header of this time, and these bytes stand after its newline
+pub record BeginsWithTime (input : List ℕ) (time : Time) (after : List ℕ) : Type 0 where
+  pub line : List ℕ
+  pub whole : input ≡ with_newline line ++ after
+  pub is_header : IsHeaderLine line time
 
 -- the input begins with these seconds and the offset `-0000` as a line, and these bytes stand after its newline
 pub record BeginsWithUnknown (input seconds after : List ℕ) : Type 0 where

@@ -4,10 +4,14 @@ ghost use Rattle.streams.specs as Spec;
 ghost use Rattle.gix_date.specs as GixDate;
 
 use crate::blocks::{DIGITS_BLOCK, leading_digits};
+use gix_date::{Time, usual_header_time};
 use std::str;
 
 /// The most bytes of a line that is found: 16 digits and an offset.
 pub const MAX_HEADER: usize = 22;
+
+/// The bytes of a header of ten digits.
+const TEN_DIGIT_HEADER: usize = 16;
 
 /// The bytes after a first line that is a canonical header, and ends in a newline.
 ///
@@ -30,6 +34,22 @@ pub fn is_usual_header(bytes: &[u8]) -> bool
     ensures { IsTrue result → GixDate.is_canonical_header bytes.now ≡ true }
 {
     matches!(after_header(bytes), Some([]))
+}
+
+/// The time of a first line that is a header of ten digits, and the bytes after its newline.
+#[tactic(auto, using(crate::proofs::HeaderLines::time_is_line))]
+#[inline(always)]
+pub fn usual_line_time(bytes: &[u8]) -> Option<(Time, &[u8])>
+    ensures { IfSome result (λ found. Spec.BeginsWithTime bytes.now found.0 found.1.now) }
+{
+    if bytes.len() < TEN_DIGIT_HEADER {
+        return None;
+    }
+    let (line, rest) = bytes.split_at(TEN_DIGIT_HEADER);
+    match rest {
+        [end, after @ ..] if *end == b'\n' => Some((usual_header_time(line)?, after)),
+        _ => None,
+    }
 }
 
 /// The bytes after a canonical header in front.

@@ -4,21 +4,23 @@ use Rattle.std.proofs.Common.{◌++◌, length, take, drop, get_or, Option, Some
 use Rattle.std.specs.Char.{is_ascii_digit}
 use Rattle.std.specs.List.{fold, list_all}
 use Rattle.std.specs.Prelude.{nat_lt}
-use Rattle.std.proofs.lemmas.Bool.{and_from as join}
+use Rattle.std.proofs.lemmas.Bool.{and_from as join, and_parts}
 use Rattle.std.proofs.lemmas.List.{take_all}
 use Rattle.std.proofs.lemmas.Bool.Decides.{nat_tests}
 use Rattle.jiff_core.proofs.SignedLemmas.{signed_arith}
-use Rattle.gix_date.proofs.Fields.Instants.{instant_from}
+use Rattle.gix_date.proofs.Fields.Instants.{instant_from, z_test}
+use Rattle.std.proofs.Common.{FitsSigned, w64}
+use Rattle.std.specs.Int.Signed.{le_z}
 use Rattle.gix_date.specs.Fields.FieldTexts.{clock_text}
 use Rattle.gix_date.specs.Fields.Layout.{LocalTime}
 use Rattle.gix_date.specs.Fields.Offsets.{compact_offset_text}
-use Rattle.gix_date.specs.Fields.Zoned.{is_instant}
+use Rattle.gix_date.specs.Fields.Zoned.{is_instant, first_second, last_second}
 use Rattle.gix_date.specs.Text.Characters.{at_sign, space, plus, minus}
 use Rattle.gix_date.specs.Text.Numbers.{two_digits}
 use Rattle.git_date.specs.Rules.Clocks.{utc_clock}
 use Rattle.git_date.specs.Rules.Dates.{exact_seconds, month_start, first_of_year_2100}
 use Rattle.git_date.specs.Rules.Digits.{digits_rule, min_epoch, with_epoch}
-use Rattle.git_date.specs.Exact.Fast.{IsGitDate, WritesTwo, WritesClock, WritesOffset, WritesSeconds, WritesRaw, Says}
+use Rattle.git_date.specs.Exact.Fast.{IsGitDate, WritesTwo, WritesClock, WritesOffset, WritesSeconds, WritesRaw, Says, said_alone}
 use Rattle.git_date.specs.Rules.Fields.{unknown}
 use Rattle.git_date.specs.Tokens.Numbers.{digit_more, number}
 use Rattle.git_date.specs.Rules.Offsets.{at_text, padded_number, white, without_white}
@@ -228,9 +230,6 @@ module _ (seconds offset_is : List ℕ) (n : ℕ) (offset : ℤ) (s : WritesSeco
       ∙ said-is n offset instant
 
 -- seconds alone, whose offset the zone has
-abbrev pub said_alone : ℕ → Said
-said_alone n = record { seconds = pos n; offset = None; epoch = true; leap = false; ignored = None }
-
 alone-run : (run : List ℕ) → list_all is_ascii_digit run ≡ true → 1 ≤ number run → tokens run ≡ Digits run ∷ []
 unfolding number tokens
 alone-run [] digits h = absurd (omega (arith, h))
@@ -267,6 +266,15 @@ module _ (seconds : List ℕ) (n : ℕ) (s : WritesSeconds seconds n) where
 
 pub alone_is : (text : List ℕ) (n : ℕ) → WritesSeconds text n → Says text (said_alone n)
 alone_is text n w = alone-says text n w
+
+pub alone_instant : (text : List ℕ) (n : ℕ) → WritesSeconds text n → is_instant (pos n) ≡ true
+alone_instant text n w = seconds-instant n w.last
+
+pub instant_fits : (n : ℕ) → is_instant (pos n) ≡ true → FitsSigned w64 (pos n)
+instant_fits n h =
+    let each = and_parts (le_z first_second (pos n)) (le_z (pos n) last_second) h in
+    let most = z_test (pos n) last_second each.1 in
+    record { sfits = omega (arith, signed_arith) }
 
 pub at_alone_is : (text : List ℕ) (n : ℕ) → 1 ≤ length text → get_or text 0 0 ≡ at_sign
     → WritesSeconds (take (length text - 1) (drop 1 text)) n

@@ -100,7 +100,7 @@ one-number : (n : ℕ) → n < 10 → IsNumber ((48 + n) ∷ []) n
 unfolding number
 one-number n h = record { some = omega arith; digits = rw (digit-test n h) refl; is = omega arith }
 
-two-number : (n : ℕ) → n < 100 → IsNumber (two_digits n) n
+pub two-number : (n : ℕ) → n < 100 → IsNumber (two_digits n) n
 unfolding number
 two-number n h =
     record { some = omega arith; digits = rw (digit-test (n / 10) (omega arith), digit-test (n % 10) (omega arith)) refl; is = omega arith }
@@ -207,7 +207,7 @@ colon-before t h =
     (two-numbers colon (two_digits (hours_of t)) (two_digits (minutes_of t)) [] _ _ [] refl refl
     (two-number (hours_of t) (omega (arith, h.hours))) (two-number (minutes_of t) (omega (arith, h.minutes))) refl tt)
 
-clock-before : (t : LocalTime) (rest : List ℕ) (ts : List Token) → IsGitClock t → tokens rest ≡ ts → HasNoDigits ts
+pub clock-before : (t : LocalTime) (rest : List ℕ) (ts : List Token) → IsGitClock t → tokens rest ≡ ts → HasNoDigits ts
     → tokens (clock_text t.clock ++ rest) ≡ clock_tokens t ts
 clock-before t rest ts h =
     three-numbers colon (two_digits t.clock.hour) (two_digits t.clock.minute) (two_digits t.clock.second) rest _ _ _ ts refl refl
@@ -237,7 +237,7 @@ date-mark mark h = record {
   again = grind (arith, nat_tests);
 }
 
-date-before : (mark : ℕ) (t : LocalTime) (rest : List ℕ) (ts : List Token) → IsDateMark mark → IsGitClock t → tokens rest ≡ ts
+pub date-before : (mark : ℕ) (t : LocalTime) (rest : List ℕ) (ts : List Token) → IsDateMark mark → IsGitClock t → tokens rest ≡ ts
     → HasNoDigits ts
     → tokens (marked_date mark (t.date.year, t.date.month, t.date.day) ++ rest) ≡ date_tokens mark t ts
 date-before mark t rest ts is h =
@@ -367,7 +367,7 @@ pub clock-taken : (f : Fields) (h m s : ℕ) → h < 24 → m < 60 → s < 60
 unfolding with_clock
 clock-taken f h m s a b c = grind (arith, nat_tests)
 
-clock-group : (now : Now) (f : Fields) (h : ℕ) (m s : Number) → h < 24 → m.value < 60 → s.value < 60
+pub clock-group : (now : Now) (f : Fields) (h : ℕ) (m s : Number) → h < 24 → m.value < 60 → s.value < 60
     → group_rule now f (group_at colon h m s) ≡ dated.Taken (record f { hour = Some h; minute = Some m.value; second = Some s.value })
 unfolding group_rule
 clock-group now f h m s a b c = rw (clock-taken f h m.value s.value a b c) refl
@@ -396,7 +396,7 @@ three-of : (mark first : ℕ) (second third : List ℕ) (rest : List Token) → 
 unfolding group_of marked_number
 three-of mark first second third rest group again = rw (group, again) refl
 
-group-read : (mark : ℕ) (now : Now) (f : Fields) (a b c : List ℕ) (x y z : ℕ) (rest : List Token) → is_group_mark mark ≡ true
+pub group-read : (mark : ℕ) (now : Now) (f : Fields) (a b c : List ℕ) (x y z : ℕ) (rest : List Token) → is_group_mark mark ≡ true
     → (mark == mark) ≡ true → number a ≡ x → number b ≡ y → number c ≡ z
     → x < 10_000 → rule now f (Digits a) (Mark mark ∷ Digits b ∷ Mark mark ∷ Digits c ∷ rest)
     ≡ ended (or_bare f a (Mark mark ∷ Digits b ∷ Mark mark ∷ Digits c ∷ rest)
@@ -610,7 +610,7 @@ go-colon now n f t h =
     (said-colon (hours_of t) (minutes_of t) h.hours h.minutes))
     ∙ nothing-left (step now) n (at (record f { offset = Some (offset_in_minutes t) }))
 
-go-date : (mark : ℕ) (now : Now) (n : ℕ) (f : Fields) (t : LocalTime) (more rest : List Token) → IsDateMark mark → IsGitClock t
+pub go-date : (mark : ℕ) (now : Now) (n : ℕ) (f : Fields) (t : LocalTime) (more rest : List Token) → IsDateMark mark → IsGitClock t
     → without_ending more ≡ rest
     → steps now (suc n) (at f) (date_tokens mark t more) ≡ steps now n (at (with_date f t.date.year t.date.month t.date.day)) rest
 go-date mark now n f t more rest is h e =

@@ -1,11 +1,14 @@
 -- Usual letters, which one walk over a format shows at once.
 use Rattle.std.proofs.Common.{◌≡◌, ◌∙◌, ◌+◌, ◌<◌, ◌≤◌, ℕ, pos, int_le, Bool, true, false, cond, List, [], ◌∷◌, ◌++◌, length, take, drop}
-use Rattle.std.proofs.Common.{get_or, decimal, refl, ap, sym, subst, arith, Option, Some, None, Result, Ok, Err, IsUtf8}
+use Rattle.std.proofs.Common.{append_assoc, append-nil, get_or, decimal, refl, ap, sym, subst, arith}
+use Rattle.std.proofs.Common.{Option, Some, None, Result, Ok, Err, IsUtf8}
+use Rattle.std.proofs.lemmas.Bool.{false≢true}
 use Rattle.std.proofs.lemmas.Int.{ints}
 use Rattle.std.proofs.lemmas.Str.{IsCharBoundary-after_ascii}
 use Rattle.std.specs.Char.{is_ascii_digit}
 use Rattle.std.specs.List.{prefix_len, slice_get}
 use Rattle.std.specs.Prelude.{◌||◌, option_map}
+use Rattle.std.specs.Result.{is_ok}
 use Rattle.std.specs.Str.{IsCharBoundary}
 use Rattle.gix_date.proofs.Printing.ShownPieces.{number, number-two, number-four}
 use Rattle.gix_date.specs.Fields.FieldTexts.{four_digits}
@@ -17,13 +20,13 @@ use Rattle.git_date.specs.Formats.Directives.{plain_lettered, directive_lettered
 use Rattle.git_date.specs.Formats.Flags.{filled, is_flag}
 use Rattle.git_date.specs.Formats.Format.{piece_text, pieces_text}
 use Rattle.git_date.specs.Formats.Pieces.{Made, Piece, Begun, begun, digits_len, letter_place, made_at, made_by, made_if, marks_len}
-use Rattle.git_date.specs.Formats.Pieces.{next_piece, percent, plain_or_directive}
+use Rattle.git_date.specs.Formats.Pieces.{is_format, next_piece, percent, plain_or_directive}
 use Rattle.git_date.specs.Formats.Short.{letter_text, made_text, Passes}
 use Rattle.git_date.specs.Formats.Shown.{Shown}
 use Rattle.git_date.specs.Tokens.Numbers.{number as digits_number}
 use Rattle.git_date.proofs.Formats.Letters.{made-ascii}
 use Rattle.git_date.proofs.Formats.Pieces.{percent-first}
-use Rattle.git_date.proofs.Formats.Walks.{Left, left-next, grown-more}
+use Rattle.git_date.proofs.Formats.Walks.{Left, left-fault, left-next, grown-more, not-whole}
 
 -- numbers that are filled with zeros
 pub two_filled : (n : ℕ) → n < 100 → filled true 2 (decimal n) ≡ two_digits n
@@ -150,6 +153,40 @@ pub left-passed : (shown : Shown) (text rest further start old new : List ℕ)
 left-passed shown text rest further start old new left h p =
     left-next text rest further _ _ p.piece left h p.first p.shorter
     (λ done e. grown-more shown start old new done p.piece (piece_text shown p.piece) refl e p.said)
+
+-- the same after what stands already
+pub passes-after : (base : List ℕ) (shown : Shown) (text rest old new : List ℕ) → Passes shown text rest old new
+    → Passes shown text rest (base ++ old) (base ++ new)
+passes-after base shown text rest old new p = record {
+  piece = p.piece;
+  first = p.first;
+  shorter = p.shorter;
+  said = ap (λ (xs : List ℕ). base ++ xs) p.said ∙ sym (append_assoc base old (piece_text shown p.piece));
+}
+
+-- a whole format has no fault in what is left
+ok-by : (r : Step) → ((fault : FormatFault) → Err fault ≡ r → ⊥) → is_ok r ≡ true
+ok-by (Ok found) none = refl
+ok-by (Err fault) none = absurd (none fault refl)
+
+pub left-ok : (text rest : List ℕ) (P : List Piece → Type 0) → Left text rest P → 0 < length rest → is_format text ≡ true
+    → is_ok (next_piece rest) ≡ true
+left-ok text rest P left h whole = ok-by (next_piece rest) (λ fault e. not-whole text fault whole (left-fault text rest P fault left h e))
+
+pub no-fault-first : (text : List ℕ) (fault : FormatFault) → is_ok (next_piece text) ≡ true → Err fault ≡ next_piece text → ⊥
+no-fault-first text fault h e = false≢true (ap (λ (r : Step). is_ok r) e ∙ h)
+
+-- a part, and a piece after it
+pub apart : (shown : Shown) (text rest old part mid new emptied told : List ℕ) (piece : Piece) → Ok (piece, rest) ≡ next_piece text
+    → length rest < length text → mid ≡ old ++ part → emptied ≡ [] → new ≡ mid ++ told → told ≡ piece_text shown piece
+    → Passes shown text rest (old ++ part) (new ++ emptied)
+apart shown text rest old part mid new emptied told piece first shorter front none back is = record {
+  piece = piece;
+  first = first;
+  shorter = shorter;
+  said = ap (λ (xs : List ℕ). new ++ xs) none ∙ append-nil new ∙ back ∙ ap (λ (xs : List ℕ). xs ++ told) front
+      ∙ ap (λ (xs : List ℕ). (old ++ part) ++ xs) is;
+}
 
 -- `%Y`
 pub year_shown : (shown : Shown) (letter : ℕ) → letter ≡ 89

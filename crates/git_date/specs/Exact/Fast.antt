@@ -2,13 +2,14 @@
 use Rattle.std.specs.Char.{is_ascii_digit}
 use Rattle.std.specs.List.{count_by, list_all, list_any}
 use Rattle.std.specs.Prelude.{◌≡◌, ◌<◌, ◌≤◌, ℕ, ◌%◌, Bool, not, ◌&&◌, ◌||◌, ◌==◌, nat_lt, true, false, ◌⊎◌, decimal, List, [], ◌∷◌, ◌++◌, ℤ}
-use Rattle.std.specs.Prelude.{pos, negsuc, ◌*ℤ◌, unsigned_abs, Some, None, Ok}
+use Rattle.std.specs.Prelude.{pos, negsuc, ◌*ℤ◌, unsigned_abs, Some, None, Result, Ok}
 use Rattle.gix_date.specs.Fields.FieldTexts.{four_digits, clock_text}
 use Rattle.gix_date.specs.Fields.DateOffsets.{strict_offset_text}
 use Rattle.gix_date.specs.Fields.Offsets.{compact_offset_text}
 use Rattle.gix_date.specs.Text.Characters.{comma, dot, letter_t, minus, space, colon}
 use Rattle.git_date.specs.Rules.Dates.{first_of_year_2100}
 use Rattle.git_date.specs.Rules.Digits.{min_epoch}
+use Rattle.git_date.specs.Rules.Fields.{unknown}
 use Rattle.git_date.specs.Rules.Groups.{slash}
 use Rattle.git_date.specs.Tokens.Numbers.{number}
 use Rattle.gix_date.specs.Text.Names.{day_name, month_name}
@@ -18,6 +19,7 @@ use Rattle.git_date.specs.Exact.Reading.{fields_said, said_by}
 use Rattle.jiff.specs.Types.{TimeZone}
 use Rattle.git_date.specs.declared.fields.dates.Now.{Now}
 use Rattle.git_date.specs.declared.fields.Fields.{Fields}
+use Rattle.git_date.specs.declared.error.DateError.{DateError}
 use Rattle.git_date.specs.declared.reader.ExactDate.{ExactDate}
 use Rattle.git_date.specs.declared.reader.Said.{Said}
 
@@ -117,6 +119,23 @@ pub record WritesClock (text : List ℕ) (clock : ℕ × ℕ × ℕ) : Type 0 wh
   pub second : clock.2 < 60
   pub is : clock_text (record { hour = clock.0; minute = clock.1; second = clock.2 }) ≡ text
 
+-- a text is a clock without seconds: `10:00`
+pub record WritesShortClock (text : List ℕ) (clock : ℕ × ℕ × ℕ) : Type 0 where
+  pub hour : clock.0 < 24
+  pub minute : clock.1 < 60
+  pub second : clock.2 ≡ 0
+  pub is : two_digits clock.0 ++ (colon ∷ two_digits clock.1) ≡ text
+
+-- a text is a clock, with or without seconds
+abbrev pub WritesAnyClock : List ℕ → ℕ × ℕ × ℕ → Type 0
+WritesAnyClock text clock = WritesShortClock text clock ⊎ WritesClock text clock
+
+-- a text is a space and a clock
+pub record WritesSpacedClock (text : List ℕ) (clock : ℕ × ℕ × ℕ) : Type 0 where
+  pub rest : List ℕ
+  pub is_clock : WritesAnyClock rest clock
+  pub is : space ∷ rest ≡ text
+
 -- a text is an offset of so many minutes, which Git knows, as it is shown
 pub record WritesOffset (show : ℤ → List ℕ) (text : List ℕ) (minutes : ℤ) : Type 0 where
   pub within : unsigned_abs (pos 60 *ℤ minutes) ≤ 86_340
@@ -184,9 +203,21 @@ fields_in date clock offset = record {
   epoch = false;
 }
 
+-- the fields of a date alone
+abbrev pub day_fields : ℕ × ℕ × ℕ → Fields
+day_fields date = record unknown { year = Some date.0; month = Some date.1; day = Some date.2 }
+
+-- and those of a date and a clock without an offset
+abbrev pub local_fields : ℕ × ℕ × ℕ → ℕ × ℕ × ℕ → Fields
+local_fields date clock = record (day_fields date) { hour = Some clock.0; minute = Some clock.1; second = Some clock.2 }
+
 -- a text says these fields, whatever the moment
 abbrev pub SaysFields : List ℕ → Fields → Type 0
 SaysFields text f = (now : Now) → said_by now text ≡ fields_said text (Ok (record { fields = f; ignored = None }))
+
+-- seconds alone say this, whose offset the zone has
+abbrev pub said_alone : ℕ → Said
+said_alone n = record { seconds = pos n; offset = None; epoch = true; leap = false; ignored = None }
 
 -- a text says this, whatever the moment
 abbrev pub Says : List ℕ → Said → Type 0
@@ -195,6 +226,10 @@ Says text said = (now : Now) → said_by now text ≡ Ok said
 -- a text says this date, whatever the moment and the zone
 abbrev pub SaysDate : List ℕ → ExactDate → Type 0
 SaysDate text date = (now : Now) (tz : TimeZone) → date_of tz (said_by now text) ≡ Ok date
+
+-- a text comes to this in a zone, whatever the moment
+unfoldable pub SaysIn : TimeZone → List ℕ → Result ExactDate DateError → Type 0
+SaysIn tz text answer = (now : Now) → date_of tz (said_by now text) ≡ answer
 
 -- a text has fewer than three digits, and no colon: it says no clock
 abbrev pub has_few_digits : List ℕ → Bool

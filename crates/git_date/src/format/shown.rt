@@ -5,6 +5,7 @@ ghost use Rattle.git_date.specs as Spec;
 ghost use Rattle.gix_date.specs as GixDate;
 
 use crate::clocks::{own_clock, zone_clock};
+use crate::zones::offset_in;
 use gix_date::Time;
 use gix_date::clock::Clock;
 use jiff::Timestamp;
@@ -60,7 +61,7 @@ fn zone_shown_by(clock: Clock, seconds: i64, zone: TimeZone<'_>) -> Shown
     let Ok(instant) = Timestamp::from_second(seconds) else {
         unreachable!()
     };
-    let offset = zone.to_offset(instant).seconds();
+    let offset = offset_in(zone, seconds, instant);
     Shown {
         clock,
         seconds: seconds_said(clock, counted(seconds, offset, clock.offset())),

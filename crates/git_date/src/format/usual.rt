@@ -1,5 +1,5 @@
 //! What formats usually ask for, each appended at once: letters, and marks between them.
-ghost use Rattle.std.specs.Prelude.{◌≡◌, ◌+◌, ◌≤◌, ◌<◌, Some, true, decimal, IfSome};
+ghost use Rattle.std.specs.Prelude.{◌≡◌, ◌+◌, ◌≤◌, ◌<◌, ◌++◌, Some, true, false, decimal, IfSome};
 ghost use Rattle.arrayvec.specs.ArrayString.{array_string_len};
 ghost use Rattle.git_date.specs as Spec;
 
@@ -7,11 +7,16 @@ use crate::format::begun::push_alone;
 use crate::format::chunks::push_offset;
 use crate::format::shown::Shown;
 use arrayvec::ArrayString;
-use gix_date::clock::{Clock, push_clock, push_date, push_two_digits, push_year};
+use gix_date::clock::{
+    Clock, push_clock, push_date, push_month, push_two_digits, push_weekday, push_year,
+};
 use gix_date::names::{day_name, month_name};
 
 /// The greatest length of what is shown at once, `2009-08-30`.
 pub(crate) const USUAL_ROOM: usize = 10;
+
+/// The length of what `%c` shows, `Thu Aug 18 12:45:06 2022`.
+const DATE_AND_CLOCK_LEN: usize = 24;
 
 /// The number that a usual letter shows in two digits.
 #[inline(always)]
@@ -72,16 +77,71 @@ pub(crate) fn push_letter<const CAP: usize>(
             push_offset(out, shown.clock.offset());
             true
         }
+        b'e' | b'c' => push_rarer(out, letter, shown),
         _ => push_alone(out, letter, shown),
     }
 }
 
-/// Does nothing, and says that a clock's numbers but the year have two digits at most.
+/// The same of `%e` and `%c`, which are rarer. By itself, so that it does not slow down the others.
+#[tactic(auto, using(crate::proofs::Formats::Short::appended, crate::proofs::Formats::Usual::spaced_shown), unfolding(crate::specs::number))]
+#[inline(never)]
+fn push_rarer<const CAP: usize>(out: &mut ArrayString<CAP>, letter: u8, shown: &Shown) -> bool
+    requires { array_string_len out.old + 10 ≤ CAP }
+    ensures { Spec.PushesLetter (Spec.letter_text (Spec.shown_of shown.now) letter) out.old.bytes out.new.bytes result }
+{
+    match letter {
+        b'e' => {
+            push_spaced_day(out, shown.clock);
+            true
+        }
+        b'c' if 1000 <= shown.clock.year() && CAP - out.len() >= DATE_AND_CLOCK_LEN => {
+            know_pairs(shown.clock);
+            push_date_and_clock(out, shown.clock);
+            true
+        }
+        _ => push_alone(out, letter, shown),
+    }
+}
+
+/// Appends the day of the month, after a space in place of a zero.
+#[tactic(auto, using(crate::proofs::Formats::Usual::spaced_two))]
+#[inline(always)]
+fn push_spaced_day<const CAP: usize>(out: &mut ArrayString<CAP>, t: Clock)
+    requires { array_string_len out.old + 2 ≤ CAP }
+    ensures bytes { out.new.bytes ≡ out.old.bytes ++ Spec.filled false 2 (decimal t.date.day) }
+    ensures len { array_string_len out.new ≡ array_string_len out.old + 2 }
+{
+    let day = t.day();
+    if day < 10 {
+        out.push(' ');
+        out.push(char::from(b'0' + day));
+    } else {
+        push_two_digits(out, day);
+    }
+}
+
+/// Appends `Www Mmm DD hh:mm:ss YYYY`, with such a day.
+#[inline(never)]
+fn push_date_and_clock<const CAP: usize>(out: &mut ArrayString<CAP>, t: Clock)
+    requires { array_string_len out.old + DATE_AND_CLOCK_LEN ≤ CAP }
+    ensures { out.new.bytes ≡ out.old.bytes ++ Spec.date_and_clock_text t }
+{
+    push_weekday(out, t);
+    push_month(out, t);
+    push_spaced_day(out, t);
+    out.push(' ');
+    push_clock(out, t);
+    out.push(' ');
+    push_year(out, t);
+}
+
+/// Does nothing, and says that a clock's year has four digits at most, and its other numbers two.
 #[inline(always)]
 fn know_pairs(t: Clock)
+    ensures year { t.date.year ≤ 9999 }
     ensures date { (t.date.month < 100) × (t.date.day < 100) }
     ensures clock { (t.clock.hour < 100) × (t.clock.minute < 100) × (t.clock.second < 100) }
 {
-    let _date = (t.month(), t.day());
+    let _date = (t.year(), t.month(), t.day());
     let _clock = (t.hour(), t.minute(), t.second());
 }

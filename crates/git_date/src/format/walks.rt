@@ -1,5 +1,7 @@
 //! Walks over the pieces of a format, of which one checks it too and shows at most 255 bytes.
-ghost use Rattle.std.specs.Prelude.{◌≡◌, ◌+◌, ◌≤◌, ◌<◌, ◌++◌, true, Some, length, string_bytes, IsTrue, IfSome, IfNone, IfErr, OnOk, OnErr};
+ghost use Rattle.std.specs.Prelude.{◌≡◌, ◌+◌, ◌≤◌, ◌<◌, ◌++◌, true, Some, length, string_bytes, IsTrue, IsFalse};
+ghost use Rattle.std.specs.Prelude.{IfSome, IfNone, IfErr, IfOk, OnOk, OnErr};
+ghost use Rattle.std.specs.Result.{is_ok};
 ghost use Rattle.arrayvec.specs.ArrayString.{array_string_len};
 ghost use Rattle.git_date.specs as Spec;
 ghost use Rattle.gix_date.specs as GixDate;
@@ -122,7 +124,9 @@ fn push_usual<'a, const CAP: usize>(
 /// Appends the text of a piece, if there is room for it.
 #[inline(always)]
 fn push_piece<const CAP: usize>(out: &mut ArrayString<CAP>, piece: Piece<'_>, shown: &Shown) -> bool
-    ensures { IsTrue result → out.new.bytes ≡ out.old.bytes ++ Spec.piece_text (Spec.shown_of shown.now) (Spec.piece_of piece.entry) }
+    ensures pushed { IsTrue result
+        → out.new.bytes ≡ out.old.bytes ++ Spec.piece_text (Spec.shown_of shown.now) (Spec.piece_of piece.entry) }
+    ensures kept { IsFalse result → out.new.bytes ≡ out.old.bytes }
 {
     match piece {
         Piece::Text(text) => push_text(out, text),
@@ -130,8 +134,8 @@ fn push_piece<const CAP: usize>(out: &mut ArrayString<CAP>, piece: Piece<'_>, sh
     }
 }
 
-/// Appends the text of the first piece, and answers what is left. `None` where the piece is a fault, or has no room. By
-/// itself, since it takes texts and pieces of its own.
+/// Appends the text of the first piece, and answers what is left. `None` where the piece is a fault, or has no room: nothing is
+/// appended. By itself, since it takes texts and pieces of its own.
 #[inline(never)]
 fn push_first<'a, const CAP: usize>(
     out: &mut ArrayString<CAP>,
@@ -139,7 +143,8 @@ fn push_first<'a, const CAP: usize>(
     shown: &Shown,
 ) -> Option<&'a str>
     requires { 0 < length text.now }
-    ensures { IfSome result (λ rest. Spec.Passes (Spec.shown_of shown.now) text.now rest.now out.old.bytes out.new.bytes) }
+    ensures passes { IfSome result (λ rest. Spec.Passes (Spec.shown_of shown.now) text.now rest.now out.old.bytes out.new.bytes) }
+    ensures kept { IfNone result (out.new.bytes ≡ out.old.bytes) }
 {
     let (piece, rest) = next_piece(text).ok()?;
     push_piece(out, piece, shown).then_some(rest)
@@ -153,7 +158,8 @@ fn push_next<'a, const CAP: usize>(
     shown: &Shown,
 ) -> Option<&'a str>
     requires { 0 < length text.now }
-    ensures { IfSome result (λ rest. Spec.Passes (Spec.shown_of shown.now) text.now rest.now out.old.bytes out.new.bytes) }
+    ensures passes { IfSome result (λ rest. Spec.Passes (Spec.shown_of shown.now) text.now rest.now out.old.bytes out.new.bytes) }
+    ensures kept { IfNone result (out.new.bytes ≡ out.old.bytes) }
 {
     if CAP - out.len() >= USUAL_ROOM {
         if let Some(rest) = push_usual(out, text, shown) {
@@ -204,21 +210,27 @@ fn put_pieces<W: Sink>(text: &str, shown: &Shown, out: &mut W) -> Result<(), io:
     Ok(())
 }
 
-/// Appends the texts of the pieces.
-fn push_pieces(text: &str, shown: &Shown, out: &mut String) -> Result<(), AllocError>
-    requires { Spec.is_format text.now ≡ true }
-    ensures { OnOk result
-        (string_bytes out.new ≡ string_bytes out.old ++ Spec.pieces_text (Spec.shown_of shown.now) (Spec.pieces_or_none text.now)) }
+/// Appends a part, which it empties, and after it the first piece, for which there was no room in that. By itself, since it
+/// takes a text of its own.
+#[inline(never)]
+fn push_apart<'a>(
+    out: &mut String,
+    part: &mut Part,
+    text: &'a str,
+    shown: &Shown,
+) -> Result<&'a str, AllocError>
+    requires some { 0 < length text.now }
+    requires whole { is_ok (Spec.next_piece text.now) ≡ true }
+    ensures { IfOk result (λ rest. Spec.Passes (Spec.shown_of shown.now) text.now rest.now (string_bytes out.old ++ part.old.bytes)
+        (string_bytes out.new ++ part.new.bytes)) }
 {
-    let mut rest = text;
-    'pieces: while !rest.is_empty() {
-        let Ok((piece, left)) = next_piece(rest) else {
-            unreachable!()
-        };
-        out.push_str(chunk_of(piece, shown).as_str())?;
-        rest = left;
-    }
-    Ok(())
+    let Ok((piece, rest)) = next_piece(text) else {
+        unreachable!()
+    };
+    out.push_str(part.as_str())?;
+    part.clear();
+    out.push_str(chunk_of(piece, shown).as_str())?;
+    Ok(rest)
 }
 
 /// Puts what a whole format shows into a sink.
@@ -243,16 +255,21 @@ pub(crate) fn put_shown<W: Sink>(
     }
 }
 
-/// Appends what a whole format shows.
+/// Appends what a whole format shows, in parts of at most 255 bytes.
 pub(crate) fn push_shown(text: &str, shown: &Shown, out: &mut String) -> Result<(), AllocError>
     requires { Spec.is_format text.now ≡ true }
     ensures { OnOk result
         (string_bytes out.new ≡ string_bytes out.old ++ Spec.pieces_text (Spec.shown_of shown.now) (Spec.pieces_or_none text.now)) }
 {
-    let mut short = ShortText::new();
-    if push_short(&mut short, text, shown) {
-        out.push_str(short.as_str())
-    } else {
-        push_pieces(text, shown, out)
+    let mut part = Part::new();
+    let mut rest = text;
+    'pieces: while !rest.is_empty() {
+        if let Some(left) = push_next(&mut part, rest, shown) {
+            rest = left;
+            continue;
+        }
+        rest = push_apart(out, &mut part, rest, shown)?;
     }
+    out.push_str(part.as_str())?;
+    Ok(())
 }

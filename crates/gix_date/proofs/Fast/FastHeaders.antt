@@ -6,19 +6,20 @@ use Rattle.std.proofs.lemmas.Option.{same_Some as same_some, cond_some as guard}
 use Rattle.std.proofs.lemmas.Bool.{and_parts as both, or_from as neither}
 use Rattle.std.proofs.lemmas.Bool.Decides.{nat_tests}
 use Rattle.std.proofs.lemmas.Str.{chars-IsAscii, encodes-IsAscii, IsAscii-append}
+use Rattle.std.proofs.lemmas.List.Elements.{All-append, All-cons, All-nil}
 use Rattle.std.proofs.lemmas.Str.Ascii.{IsAscii-nil, IsAscii-cons}
 use Rattle.std.specs.Char.{is_whitespace, is_ascii_alphabetic, is_ascii_digit}
-use Rattle.std.specs.Prelude.{◌==◌, ◌||◌, ◌&&◌, cond, ◌-◌, ◌*◌, encode_utf8_all}
+use Rattle.std.specs.Prelude.{◌==◌, ◌||◌, ◌&&◌, cond, ◌-◌, ◌*◌, encode_utf8_all, ◌≢◌, All}
 use Rattle.std.specs.Str.{chars, NonePass, all_ascii_digits}
 use Rattle.std.specs.Str.Parse.{without_leading_sign, signed_digits_value}
 use Rattle.std.specs.Option.{option_or}
 use Rattle.std.proofs.lemmas.List.Folds.{list_any-append}
 use Rattle.gix_date.specs.Fields.FieldTexts.{IsPair, IsSign, IsDigit}
-use Rattle.gix_date.specs.Text.Characters.{space, plus, minus, is_colon, has_colon}
+use Rattle.gix_date.specs.Text.Characters.{newline, space, plus, minus, is_colon, has_colon}
 use Rattle.gix_date.specs.Text.Front.{skip_char, ◌>>=◌}
 use Rattle.gix_date.specs.Text.Numbers.{is_int_text, int_value, read_two_digits}
 use Rattle.gix_date.specs.Fields.Offsets.{read_sign, last_pair, offset_fields, offset_of}
-use Rattle.gix_date.specs.Header.Reading.{header_seconds, header_offset, time_of_words, header_time, IsUsualHeader}
+use Rattle.gix_date.specs.Header.Reading.{header_seconds, header_offset, time_of_words, header_time, IsHeaderLine, IsUsualHeader}
 use Rattle.gix_date.specs.declared.parsing.offset.Sign.{Sign}
 use Rattle.gix_date.specs.declared.parsing.offset.Sign.TheVariants.{Plus, Minus}
 use Rattle.gix_date.specs.declared.parsing.offset.OffsetFields.{OffsetFields}
@@ -239,6 +240,31 @@ usual-header front zone n f e h = plain_of front zone n f (int-number front n e)
 pub plain_time : (text : List ℕ) (n : ℤ) (f : OffsetFields) → IsUsualHeader text n f
     → header_time text ≡ Some (record { seconds = n; offset = offset_of f })
 plain_time text n f h = ap header_time h.whole ∙ usual-header h.front h.zone n f h.is_seconds h.are_fields
+
+number-line : (t : List ℕ) → AreNumberBytes t → All (λ b. b ≢ newline) t
+number-line [] h = All-nil (λ b. b ≢ newline)
+number-line (c ∷ t) h = All-cons (λ b. b ≢ newline) c t (grind (arith, nat_tests, h.0)) (number-line t h.1)
+
+line-of : (text front zone : List ℕ) (t : Time) → header_time text ≡ Some t → text ≡ front ++ (space ∷ zone) → AreNumberBytes front
+    → AreNumberBytes zone → IsHeaderLine text t
+line-of text front zone t says whole a b =
+    let P : ℕ → Type 0 = λ n. n ≢ newline in
+    record {
+      says = says;
+      is_ascii = subst IsAscii (sym whole)
+          (IsAscii-append front (space ∷ zone) (are_ascii front a) (IsAscii-cons space zone (omega arith) (are_ascii zone b)));
+      is_line = subst (All P) (sym whole)
+          (All-append P front (space ∷ zone) (number-line front a) (All-cons P space zone (λ e. omega arith) (number-line zone b)));
+    }
+
+-- which is a line of ASCII
+pub usual_line : (text : List ℕ) (n : ℤ) (f : OffsetFields) → IsUsualHeader text n f
+    → IsHeaderLine text (record { seconds = n; offset = offset_of f })
+usual_line text n f h =
+    let a = int-number h.front n h.is_seconds in
+    let b = offset-number h.zone f h.are_fields in
+    line-of text h.front h.zone _ (plain_time text n f h) h.whole (subst AreNumberBytes (sym a.whole) a.bytes)
+    (subst AreNumberBytes (sym b.whole) b.bytes)
 
 -- such a text by places
 pub plain-places : (text : List ℕ) (place : ℕ) (n : ℤ) (f : OffsetFields) → place < length text → get_or text place 0 ≡ space

@@ -151,7 +151,7 @@ has-parts z =
     (filled, are-printed z info.0 abbreviation name (parts_of filled) info.1 refl refl same)
 
 -- a text that is always shown is shown: no date, no week and no instant of a context is needed
-shows-always : (pattern : List ℕ) (z : PlainZoned) (text : List ℕ) → AlwaysShows pattern z text → IsShown pattern z (Ok text)
+pub shows-always : (pattern : List ℕ) (z : PlainZoned) (text : List ℕ) → AlwaysShows pattern z text → IsShown pattern z (Ok text)
 shows-always pattern z text always =
     let h = has-parts z in
     let info = h.1.are_parts.0 in

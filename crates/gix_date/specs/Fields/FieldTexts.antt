@@ -109,6 +109,10 @@ pub record IsDayPrefix (text : List ℕ) : Type 0 where
 abbrev pub four_digits : ℕ → List ℕ
 four_digits n = two_digits (n / 100) ++ two_digits (n % 100)
 
+-- the ten digits of a number below 10000000000
+abbrev pub ten_digits : ℕ → List ℕ
+ten_digits n = two_digits (n / 100_000_000) ++ (four_digits (n % 100_000_000 / 10_000) ++ four_digits (n % 100_000_000 % 10_000))
+
 -- a date as `YYYY-MM-DD`
 abbrev pub date_text : DateFields → List ℕ
 date_text d = four_digits d.year ++ minus ∷ two_digits d.month ++ minus ∷ two_digits d.day

@@ -1,8 +1,9 @@
 -- How the time of a commit header is read.
-use Rattle.std.specs.Prelude.{◌≡◌, ◌≢◌, ℕ, ◌<◌, List, ℤ, pos, if◌then◌else◌, Option, Some, None, Result, ok_or, take_while, ◌∷◌, ◌++◌}
+use Rattle.std.specs.Prelude.{◌≡◌, ◌≢◌, ℕ, ◌<◌, List, ℤ, pos, if◌then◌else◌, Option, Some, None, Result, ok_or, take_while, ◌∷◌, ◌++◌, All}
 use Rattle.std.specs.Option.{option_or, option_map_or}
 use Rattle.std.specs.Char.{is_ascii_digit}
-use Rattle.gix_date.specs.Text.Characters.{has_colon, space}
+use Rattle.std.specs.Str.{IsAscii}
+use Rattle.gix_date.specs.Text.Characters.{has_colon, newline, space}
 use Rattle.gix_date.specs.Text.Front.{◌>>=◌}
 use Rattle.gix_date.specs.Text.Numbers.{IsPairAt, int_value}
 use Rattle.gix_date.specs.Fields.Offsets.{offset_fields, offset_of}
@@ -42,6 +43,12 @@ pub record IsUsualHeader (text : List ℕ) (seconds : ℤ) (fields : OffsetField
   pub whole : text ≡ front ++ space ∷ zone
   pub is_seconds : int_value front ≡ Some seconds
   pub are_fields : offset_fields zone ≡ Some fields
+
+-- a line of ASCII that is a header of this time
+pub record IsHeaderLine (text : List ℕ) (time : Time) : Type 0 where
+  pub says : header_time text ≡ Some time
+  pub is_ascii : IsAscii text
+  pub is_line : All (λ b. b ≢ newline) text
 
 -- each of eight pairs of bytes but the sixth is two digits, of this number
 unfoldable pub ArePairsButSixth : List ℕ → List ℕ → Type 0

@@ -1,13 +1,14 @@
 //! The pieces of dates, each appended to a buffer of any capacity.
 ghost use Rattle.std.specs.Str.{IsAscii};
-ghost use Rattle.std.specs.Prelude.{◌≡◌, ◌+◌, ◌≤◌, ◌<◌, ◌∷◌, ◌++◌, [], decimal, length, unsigned_abs};
+ghost use Rattle.std.specs.Prelude.{◌≡◌, ◌+◌, ◌≤◌, ◌<◌, ◌^◌, ◌∷◌, ◌++◌, [], decimal, length, unsigned_abs, Some, IfSome};
 ghost use Rattle.arrayvec.specs.ArrayString.{array_string_len};
 ghost use Rattle.gix_date.specs as Spec;
 
 use crate::clock::Clock;
 use crate::names::{day_name, month_name};
-use crate::time::{OffsetInSeconds, SECONDS_PER_HOUR, SECONDS_PER_MINUTE};
+use crate::time::{HUNDRED_HOURS, OffsetInSeconds, SECONDS_PER_HOUR, SECONDS_PER_MINUTE, Time};
 use arrayvec::ArrayString;
+use std::simd::prelude::*;
 use std::str;
 
 /// The two digits of each number below 100.
@@ -86,6 +87,46 @@ fn four_digits(n: u16) -> [u8; 4]
     [a, b, c, d]
 }
 
+/// A text like `0000000000 +0000`: of ten digits, with more than a plus as its sign, and the hours and minutes of a distance. Its eight
+/// pairs are made at once: in 16 bits each is its tens and 256 times its ones, and its bytes are added to those of zero.
+#[inline(always)]
+fn header_bytes(n: u64, more: u16, distance: u32) -> [u8; 16]
+    requires digits { n < 10 ^ 10 }
+    requires sign { more < 10 }
+    requires hours { distance < Spec.hundred_hours }
+    ensures { result ≡ Spec.ten_digits n ++ (Spec.space ∷ (Spec.plus + more) ∷ Spec.hours_and_minutes distance) }
+{
+    let low = (n % 100_000_000) as u32;
+    let pairs = u16x8::from_array([
+        (n / 100_000_000) as u16,
+        (low / 10_000 / 100) as u16,
+        (low / 10_000 % 100) as u16,
+        (low % 10_000 / 100) as u16,
+        (low % 10_000 % 100) as u16,
+        more,
+        (distance / SECONDS_PER_HOUR as u32) as u16,
+        (distance % SECONDS_PER_HOUR as u32 / SECONDS_PER_MINUTE as u32) as u16,
+    ]);
+    let tens = (pairs * u16x8::splat(103)) >> u16x8::splat(10);
+    let digits = pairs * u16x8::splat(256) - tens * u16x8::splat(2559);
+    (digits.to_le_bytes() + u8x16::from_slice(b"0000000000 +0000")).to_array()
+}
+
+/// The header text of a time as nearly all are: its seconds have ten digits.
+#[tactic(auto, using(crate::proofs::Fast::WrittenHeaders::ten_text, crate::proofs::Fast::WrittenHeaders::ten_ascii))]
+#[inline(always)]
+pub fn usual_header_text(time: Time) -> Option<[u8; 16]>
+    ensures text { IfSome result (λ text. Spec.header_text time ≡ Some text) }
+    ensures ascii { IfSome result (λ text. IsAscii text) }
+{
+    let distance = time.offset.unsigned_abs();
+    if time.seconds < 1_000_000_000 || time.seconds > 9_999_999_999 || distance >= HUNDRED_HOURS {
+        return None;
+    }
+    let more = if time.offset < 0 { b'-' - b'+' } else { 0 };
+    Some(header_bytes(time.seconds as u64, u16::from(more), distance))
+}
+
 /// `YYYY-MM-DD` of a clock.
 #[inline(always)]
 fn date_bytes(t: Clock) -> [u8; 10]
@@ -129,6 +170,22 @@ pub fn push_day<const CAP: usize>(text: &mut ArrayString<CAP>, t: Clock)
     let day = t.day();
     if day < 10 {
         text.push(char::from(b'0' + day));
+    } else {
+        push_pair(text, day);
+    }
+}
+
+/// Appends the day of the month, after a space in place of a zero.
+#[tactic(auto, using(std::proofs::lemmas::Bool::Decides::nat_tests))]
+#[inline(always)]
+pub fn push_spaced_day<const CAP: usize>(text: &mut ArrayString<CAP>, t: Clock)
+    requires { array_string_len text.old + 2 ≤ CAP }
+    ensures bytes { text.new.bytes ≡ text.old.bytes ++ Spec.spaced_day t.date.day }
+    ensures len { array_string_len text.new ≡ array_string_len text.old + 2 }
+{
+    let day = t.day();
+    if day < 10 {
+        push_ascii(text, &[b' ', b'0' + day]);
     } else {
         push_pair(text, day);
     }

@@ -86,6 +86,19 @@ pub fn parse_no_alloc(
     if let Some(time) = usual_date(input, raw) {
         return Ok(time);
     }
+    parse_unusual(input, now, raw)
+}
+
+/// Reads a date as [`parse_no_alloc`] does, for a caller that has tried [`usual_date`] before the moment is at hand.
+#[inline(always)]
+pub fn parse_unusual(
+    input: &str,
+    now: Option<Zoned<'_>>,
+    raw: RawOffsets,
+) -> Result<Time, ParseError>
+    ensures outcome { Spec.ParseNoAllocOutcome (Spec.first_family_by (Spec.allows raw) input.now) now.entry result }
+    ensures offset_fits { IfOk result (λ t. IsOffsetSeconds t.offset) }
+{
     outcome(any_answer(input, raw), now)
 }
 

@@ -29,6 +29,16 @@ pub(crate) fn fast_header(input: &str) -> Option<Time>
     Some(Time::new(seconds, fields.in_seconds()))
 }
 
+/// The time of a header of ten digits and six bytes more. `None` means only that bytes have another form.
+#[tactic(auto, using(std::proofs::lemmas::Int::ints, crate::proofs::Fast::FastHeaders::usual_line, crate::proofs::Fields::FieldsTaken::time_at))]
+#[inline(always)]
+pub fn usual_header_time(bytes: &[u8]) -> Option<Time>
+    ensures { IfSome result (Spec.IsHeaderLine bytes.now) }
+{
+    let (seconds, fields) = ten_digit_fields(bytes)?;
+    Some(Time::new(seconds, fields.in_seconds()))
+}
+
 /// The seconds and the offset's fields of a usual header. Nearly all have ten digits.
 #[tactic(auto, using(std::proofs::lemmas::Int::ints, crate::proofs::Text::AsciiCuts::byte_end, crate::proofs::Fast::FastHeaders::by_places))]
 #[inline(always)]

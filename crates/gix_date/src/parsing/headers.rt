@@ -6,7 +6,7 @@ use crate::parsing::fast::{ZONE_BYTES, fast_header};
 use crate::parsing::fields::{first_words, has_colon};
 use crate::parsing::numbers::{MAX_DIGITS, are_digits, leading_digits, parse_int};
 use crate::parsing::offset::parse_offset_fields;
-use crate::time::{SecondsSinceUnixEpoch, Time, header_text};
+use crate::time::{SecondsSinceUnixEpoch, Time, any_header_text};
 
 /// Reads the time of a commit header leniently, as gix-date does.
 ///
@@ -75,7 +75,7 @@ pub fn is_canonical_header(input: &str) -> bool
 fn is_header_text_of(time: Time, text: &str) -> bool
     ensures { result ≡ Spec.is_header_text_of time text.now }
 {
-    match header_text(time) {
+    match any_header_text(time) {
         Some(written) => written.as_str() == text,
         None => false,
     }

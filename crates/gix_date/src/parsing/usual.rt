@@ -215,7 +215,7 @@ fn usual_time(text: &[u8]) -> Option<Time>
 /// The time of a raw text, a number or a date in its usual form, which no family before theirs holds. Their lengths tell
 /// which is tried. `None` means only that the text is not in such a form.
 #[inline(always)]
-pub(crate) fn usual_date(input: &str, raw: RawOffsets) -> Option<Time>
+pub fn usual_date(input: &str, raw: RawOffsets) -> Option<Time>
     ensures first { IfSome result (λ t. Spec.first_family_by (Spec.allows raw) input.now ≡ Some (Spec.Absolute t)) }
     ensures offset_fits { IfSome result (λ t. IsOffsetSeconds t.offset) }
 {

@@ -17,6 +17,7 @@ use crate::time::named::{
     ISO8601_STRICT_PATTERN, RFC2822_PATTERN, SHORT_PATTERN, copy_text, named_text, pattern_text,
     short_buf,
 };
+pub use crate::time::patterns::PatternBuf;
 use crate::time::{Time, header_text};
 use std::alloc::Global;
 
@@ -183,7 +184,29 @@ impl Time {
         if let Some(text) = self.format_by_pattern_to_buf(pattern) {
             return copy_text(alloc, text.as_str());
         }
+        let mut short = PatternBuf::new();
+        if self.format_by_pattern_short(pattern, &mut short) {
+            return copy_text(alloc, short.as_str());
+        }
+        self.format_by_jiff(alloc, pattern)
+    }
+
+    /// The same by `jiff`'s printer, also where [`Time::format_by_pattern`] needs none.
+    pub fn format_by_jiff(&self, alloc: Global, pattern: &str) -> Result<String, Error>
+        ensures { Spec.PrintsPattern self.now pattern.now result }
+    {
         pattern_text(alloc, pattern, &self.to_zoned()?)
+    }
+
+    /// [`Time::format_by_pattern_or_unix`] by `jiff`'s printer, also where that needs none.
+    pub fn format_by_jiff_or_unix(&self, alloc: Global, pattern: &str) -> Result<String, Error>
+        ensures { Spec.PrintsPatternOrSeconds self.now pattern.now result }
+    {
+        match self.format_by_jiff(alloc, pattern) {
+            Ok(text) => Ok(text),
+            Err(error) if is_memory(&error) => Err(error),
+            Err(_other) => self.unix_seconds(alloc),
+        }
     }
 
     /// The text of [`Time::format_by_pattern`], or the seconds in decimal for a time that has none by that pattern: where

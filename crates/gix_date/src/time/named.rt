@@ -61,7 +61,7 @@ pub const MAX_NAMED_LEN: usize = 31;
 pub type FormatBuf = ArrayString<MAX_NAMED_LEN>;
 
 /// Whether the time converts, its own clock shows a year of four digits, and its offset is whole minutes.
-fn has_named_clock(time: Time) -> bool
+pub(crate) fn has_named_clock(time: Time) -> bool
     ensures { IsTrue result ↔ (Spec.IsConvertible time × Spec.HasFourDigitFields time) }
 {
     let distance = time.offset.unsigned_abs();

@@ -1,16 +1,23 @@
 -- How far a block is read or checked, line by line.
 use Rattle.std.proofs.Common.{◌≡◌, ◌∙◌, ◌⊎◌, ℕ, ◌+◌, ◌-◌, ◌<◌, ◌≤◌, List, [], ◌∷◌, ◌++◌, length, refl, sym, ap, subst, arith, length-append}
-use Rattle.std.proofs.Common.{Result, append_assoc, inl, true}
+use Rattle.std.proofs.Common.{Result, Ok, append_assoc, inl, true, Option, Bor}
+use Rattle.std.specs.Prelude.{MatchOption}
 use Rattle.std.proofs.Math.ListN.{set}
+use Rattle.std.proofs.lemmas.Str.{IsUtf8-from_ascii, is_utf8-from_IsUtf8}
 use Rattle.std.proofs.lemmas.Slice.Zip.{AllZip-long}
 use Rattle.std.specs.List.{AllZip}
 use Rattle.gix_date.specs.Header.Canonical.{is_canonical_header}
 use Rattle.gix_date.specs.Text.Characters.{newline}
+use Rattle.gix_date.specs.declared.time.Time.{Time}
 use Rattle.streams.specs.Lines.{IsCutAfter}
-use Rattle.streams.specs.Usual.{BeginsWithHeader}
+use Rattle.streams.specs.Usual.{BeginsWithHeader, BeginsWithTime}
 use Rattle.gix_date_c.specs.Git.Dates.{bool_for_c}
-use Rattle.gix_date_c.specs.Lines.Blocks.{ChecksLines, DoesLines, IsChecked}
+use Rattle.gix_date_c.specs.Lines.Blocks.{ChecksLines, DoesLines, IsChecked, IsFirstRead}
 use Rattle.gix_date_c.specs.Lines.Columns.{Columns, changed, columns_after, room_of, with_answer}
+use Rattle.gix_date_c.specs.Lines.Readers.{IsLineRead, for_c}
+use Rattle.gix_date_c.specs.Values.Times.{header_answer, time_for_c}
+use Rattle.gix_date_c.specs.declared.lines.reader.LineReader.{LineReader}
+use Rattle.gix_date_c.specs.declared.lines.reader.LineReader.TheVariants.{Header}
 use Rattle.gix_date_c.specs.declared.values.status.Status.{Status}
 use Rattle.gix_date_c.specs.declared.values.time.CTime.{CTime}
 use Rattle.gix_date_c.proofs.Blocks.Columns.{changed-set, stored-next}
@@ -119,3 +126,22 @@ canonical_checked input after h = record {
   cut = (h.is_line, inl (h.whole ∙ append_assoc h.line (newline ∷ []) after));
   is = sym h.is_canonical;
 }
+
+-- a usual header in front is read as its time
+pub header_read : (input after : List ℕ) (time : Time) → BeginsWithTime input time after
+    → IsFirstRead (IsLineRead Header) input (Ok (time_for_c time)) after
+header_read input after time h =
+    let text = is_utf8-from_IsUtf8 h.line (IsUtf8-from_ascii h.line h.is_header.is_ascii) in
+    let says : Ok (time_for_c time) ≡ for_c (header_answer h.line) = rw (text, h.is_header.says) refl in
+    record {
+      line = h.line;
+      cut = (h.is_header.is_line, inl (h.whole ∙ append_assoc h.line (newline ∷ []) after));
+      reads = says;
+    }
+
+-- so it is by the reader of headers
+pub header_reader : (reader : LineReader) (input : List ℕ) (found : Option (Result CTime Status × Bor (List ℕ))) → reader ≡ Header
+    → MatchOption found (input ≡ []) (λ answer. IsFirstRead (IsLineRead Header) input answer.0 answer.1.now)
+    → MatchOption found (input ≡ []) (λ answer. IsFirstRead (IsLineRead reader) input answer.0 answer.1.now)
+header_reader reader input found is h =
+    subst (λ (r : LineReader). MatchOption found (input ≡ []) (λ answer. IsFirstRead (IsLineRead r) input answer.0 answer.1.now)) (sym is) h

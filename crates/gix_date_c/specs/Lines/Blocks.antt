@@ -27,6 +27,13 @@ pub record DoesLines (Reads : List ℕ → Result CTime Status → Type 0) (bloc
   pub stored : new ≡ columns_after answers old
   pub counted : done.0 ≡ length lines
 
+-- the first line of an input has this answer, of which this is known, and these bytes stand after it
+pub record IsFirstRead (Reads : List ℕ → Result CTime Status → Type 0) (input : List ℕ) (answer : Result CTime Status) (after : List ℕ)
+    : Type 0 where
+  pub line : List ℕ
+  pub cut : IsCutAfter input (line, after)
+  pub reads : Reads line answer
+
 -- the first line of an input is a canonical header, or is none, and these bytes stand after it
 pub record IsChecked (input : List ℕ) (comes_back : Bool) (after : List ℕ) : Type 0 where
   pub line : List ℕ

@@ -133,7 +133,7 @@ fn approximate_time(line: &[u8], now: Result<Zoned<'_>, Status>) -> Result<CTime
 }
 
 /// A time, as C has it.
-fn for_c(answer: Result<Time, Status>) -> Result<CTime, Status>
+pub(crate) fn for_c(answer: Result<Time, Status>) -> Result<CTime, Status>
     ensures { result ≡ Spec.for_c answer }
 {
     answer.map(time_for_c)

@@ -1,5 +1,5 @@
 //! Texts that go into a buffer of the caller.
-ghost use Rattle.std.specs.Prelude.{◌≡◌, ◌+◌, ◌≤◌, ◌++◌, length, take, drop};
+ghost use Rattle.std.specs.Prelude.{◌≡◌, ◌+◌, ◌≤◌, ◌++◌, length, take, drop, Ok};
 ghost use Rattle.std.specs.Result.{result_map_both};
 ghost use Rattle.gix_date_c.specs as Spec;
 
@@ -33,10 +33,7 @@ pub(crate) fn store_text(answer: Result<&str, Status>, out: &mut [u8], len: &mut
         ≡ Spec.outcome_of (result_map_both (λ text. text.now) (λ status. status) answer.entry) out.old }
 {
     match answer {
-        Ok(text) => {
-            *len = text.len();
-            put_text(text, out).number()
-        }
+        Ok(text) => store_bytes(text.as_bytes(), out, len),
         Err(status) => {
             *len = 0;
             status.number()
@@ -60,14 +57,15 @@ pub(crate) fn store_array<const CAP: usize>(
     }
 }
 
-/// Puts a text at the front of a buffer that has room for it.
-fn put_text(text: &str, out: &mut [u8]) -> Status
-    ensures { record { bytes = out.new; len = length text.now; status = Spec.number_of result }
-        ≡ Spec.text_outcome text.now out.old }
+/// The same of a text's bytes. It is inlined, so that bytes whose number is known are stored without a loop.
+#[inline(always)]
+pub(crate) fn store_bytes(text: &[u8], out: &mut [u8], len: &mut usize) -> u32
+    ensures { Spec.outcome out.new len.new result ≡ Spec.outcome_of (Ok text.now) out.old }
 {
+    *len = text.len();
     if text.len() > out.len() {
-        return Status::NoRoom;
+        return Status::NoRoom.number();
     }
-    put_at(out, 0, text);
-    Status::Done
+    out[..text.len()].copy_from_slice(text);
+    Status::Done.number()
 }

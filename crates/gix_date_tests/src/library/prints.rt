@@ -2,11 +2,14 @@
 use crate::fakes::answers::{Fault, check, check_at, fails, reads};
 use crate::fakes::take_all;
 use gix_date::Time;
-use gix_date::time::format::{ISO8601, RAW, UNIX};
+use gix_date::time::format::{ISO8601, PatternBuf, RAW, UNIX};
 use gix_date::time::{CustomFormat, Format};
 use std::alloc::{AllocError, Global};
 
 const ISO: Format = Format::Custom(ISO8601);
+
+/// A pattern whose text has 139 bytes.
+const LONG_PATTERN: &str = "%F %T %F %T %F %T %F %T %F %T %F %T %F %T";
 
 #[test]
 fn a_format_may_have_any_pattern(rt: HostRuntime) {
@@ -45,6 +48,35 @@ fn named_formats_have_texts_by_value(rt: HostRuntime) {
     ] {
         let time = Time::new(seconds, offset);
         check_at(&rt, time.format_to_buf(format).is_none(), &time);
+    }
+}
+
+// What `strftime` of glibc 2.36 shows.
+#[test]
+fn patterns_of_usual_letters_have_short_texts(rt: HostRuntime) {
+    let time = Time::new(4_102_444_799, 49_500);
+    let mut short = PatternBuf::new();
+    for &(pattern, text) in &[
+        ("%d.%m.%Y", "01.01.2100"),
+        ("%F %T", "2100-01-01 13:44:59"),
+        ("%a, %e %b %Y, %T %z", "Fri,  1 Jan 2100, 13:44:59 +1345"),
+        ("", ""),
+    ] {
+        let shown = time.format_by_pattern_short(pattern, &mut short);
+        check_at(&rt, shown && short.as_str() == text, &pattern);
+    }
+    for pattern in ["%A", "%", "%Y-%", "%-d", "\u{e9}", LONG_PATTERN] {
+        let shown = time.format_by_pattern_short(pattern, &mut short);
+        check_at(&rt, !shown, &pattern);
+    }
+    for &(seconds, offset) in &[
+        (0, 93_600),
+        (253_402_207_201, 0),
+        (-30_610_224_001, 0),
+        (0, 61),
+    ] {
+        let time = Time::new(seconds, offset);
+        check_at(&rt, !time.format_by_pattern_short("%Y", &mut short), &time);
     }
 }
 

@@ -8,9 +8,13 @@ ghost use Rattle.streams.specs as Streams;
 use crate::program::arguments::Mode;
 use crate::runs::signed::{SignedLine, sign};
 use gix_date::bytes::text_of;
+use gix_date::clock::usual_header_text;
 use gix_date::device::Sink;
-use gix_date::{HeaderKind, ParseError, RawOffsets, Time, Zoned, header_kind, parse_no_alloc};
-use std::io;
+use gix_date::time::any_header_text;
+use gix_date::{
+    HeaderKind, ParseError, RawOffsets, Time, Zoned, header_kind, parse_unusual, usual_date,
+};
+use std::{io, str};
 use streams::Outbox;
 
 /// What is asked of each line.
@@ -78,14 +82,30 @@ impl Reply<'_> {
     }
 }
 
-/// Puts the header text of a time that a line is parsed as after what is unsent.
+/// Puts the header text of a time that a line is parsed as after what is unsent. Nearly all have ten digits and six bytes more.
 #[tactic(auto, using(crate::proofs::Sent::time_sent))]
+#[inline(always)]
 fn push_time<W: Sink>(time: Time, outbox: &mut Outbox, out: &mut W) -> Result<(), io::ErrorKind>
     requires { Spec.IsWritable (Parsed time) }
     ensures { Streams.Sends (Streams.output outbox.old (W.known out.old)) (Streams.output outbox.new (W.known out.new))
         (Spec.reply_line (Parsed time)) result }
 {
-    let text = time.to_buf().unwrap();
+    let Some(text) = usual_header_text(time) else {
+        return push_any_time(time, outbox, out);
+    };
+    let mut line = [b'\n'; 17];
+    line[..text.len()].copy_from_slice(&text);
+    outbox.push_piece(unsafe { str::from_utf8_unchecked(&line) }, out)
+}
+
+/// The same of any time.
+#[tactic(auto, using(crate::proofs::Sent::time_sent))]
+fn push_any_time<W: Sink>(time: Time, outbox: &mut Outbox, out: &mut W) -> Result<(), io::ErrorKind>
+    requires { Spec.IsWritable (Parsed time) }
+    ensures { Streams.Sends (Streams.output outbox.old (W.known out.old)) (Streams.output outbox.new (W.known out.new))
+        (Spec.reply_line (Parsed time)) result }
+{
+    let text = any_header_text(time).unwrap();
     outbox.push(&[text.as_str(), "\n"], out)
 }
 
@@ -127,8 +147,8 @@ pub fn unchanged_lines(line: &[u8])
     ensures { Spec.UnchangedLines line.now }
 {}
 
-/// Puts the reply to a line, and a newline, after what is unsent.
-#[tactic(auto, using(crate::proofs::Sent::not_text_sent, crate::proofs::Sent::check_sent, crate::proofs::Sent::parse_sent, crate::proofs::Sent::sign_sent))]
+/// Puts the reply to a line, and a newline, after what is unsent. Usual dates are replied to before those of other replies are made.
+#[tactic(auto, using(crate::proofs::Sent::not_text_sent, crate::proofs::Sent::check_sent, crate::proofs::Sent::usual_sent, gix_date::proofs::Header::HeaderTexts::fitting_has_text, crate::proofs::Sent::parse_sent, crate::proofs::Sent::sign_sent))]
 pub(crate) fn push_reply<W: Sink>(
     query: &Query,
     line: &[u8],
@@ -139,13 +159,48 @@ pub(crate) fn push_reply<W: Sink>(
         query.entry.now line.now result }
 {
     let Some(text) = text_of(line) else {
-        return Reply::NotText.push_to(outbox, out);
+        return outbox.push(&["not text\n"], out);
     };
     match query.mode {
-        Mode::Check => check_reply(text).push_to(outbox, out),
-        Mode::Parse => parse_reply(text, query.now).push_to(outbox, out),
-        Mode::Sign => sign_reply(text).push_to(outbox, out),
+        Mode::Check => push_checked(text, outbox, out),
+        Mode::Parse => match usual_date(text, RawOffsets::Quarter) {
+            Some(time) => push_time(time, outbox, out),
+            None => push_unusual(text, query, outbox, out),
+        },
+        Mode::Sign => push_signed(text, outbox, out),
     }
+}
+
+/// Puts what is replied to a text in Check after what is unsent.
+#[inline(always)]
+fn push_checked<W: Sink>(text: &str, outbox: &mut Outbox, out: &mut W) -> Result<(), io::ErrorKind>
+    ensures { Streams.Sends (Streams.output outbox.old (W.known out.old)) (Streams.output outbox.new (W.known out.new))
+        (Spec.reply_line (Spec.check_reply text.now)) result }
+{
+    check_reply(text).push_to(outbox, out)
+}
+
+/// Puts what is replied to a text in Sign after what is unsent.
+#[inline(always)]
+fn push_signed<W: Sink>(text: &str, outbox: &mut Outbox, out: &mut W) -> Result<(), io::ErrorKind>
+    ensures { Spec.SendsSome (Spec.IsSignReply text.now) (Streams.output outbox.old (W.known out.old))
+        (Streams.output outbox.new (W.known out.new)) result }
+{
+    sign_reply(text).push_to(outbox, out)
+}
+
+/// Puts what is replied to a text in Parse after what is unsent, for a caller that has tried usual dates.
+#[inline(always)]
+fn push_unusual<W: Sink>(
+    text: &str,
+    query: &Query,
+    outbox: &mut Outbox,
+    out: &mut W,
+) -> Result<(), io::ErrorKind>
+    ensures { Spec.SendsSome (Spec.IsParseReply (GixDate.first_family text.now) query.entry.now.now)
+        (Streams.output outbox.old (W.known out.old)) (Streams.output outbox.new (W.known out.new)) result }
+{
+    parse_reply(text, query.now).push_to(outbox, out)
 }
 
 /// Whether a text is a header text that comes back when it is read and written, and else what it is read as.
@@ -168,7 +223,7 @@ fn parse_reply(text: &str, now: Option<Zoned<'static>>) -> Reply<'static>
     ensures is { Spec.IsParseReply (GixDate.first_family text.now) now.entry result }
     ensures writable { Spec.IsWritable result }
 {
-    match parse_no_alloc(text, now, RawOffsets::Quarter) {
+    match parse_unusual(text, now, RawOffsets::Quarter) {
         Ok(time) => Reply::Parsed(time),
         Err(ParseError::UnknownFormat) => Reply::UnknownFormat,
         Err(ParseError::DateConversion) => Reply::DateConversion,

@@ -10,7 +10,7 @@ use Rattle.std.proofs.lemmas.List.{length-drop, take-append-drop, take_all}
 use Rattle.std.proofs.lemmas.Grind.{take_at_read}
 use Rattle.std.proofs.lemmas.List.Folds.{list_all-append}
 use Rattle.std.specs.Char.{is_ascii_digit}
-use Rattle.std.specs.List.{list_all, list_any, position_or_len, prefix_len, after_first}
+use Rattle.std.specs.List.{list_all, list_any, position_or_len, after_first}
 use Rattle.std.specs.Prelude.{codes, nat_lt}
 use Rattle.std.specs.Str.Parse.{digits_value}
 use Rattle.gix_date.proofs.Text.AsciiCuts.{all-append}
@@ -32,7 +32,6 @@ use Rattle.gix_signature.proofs.Texts.{place_within}
 use Rattle.gix_signature.proofs.DateTexts.{IsDate, zone-next}
 use Rattle.std.proofs.lemmas.Slice.Eq.{bytes_eq-Decides}
 use Rattle.std.specs.Str.{bytes_eq}
-use Rattle.gix_signature.proofs.Idents.Near.{run-passes}
 use Rattle.gix_signature.proofs.Idents.UsualDates.{are-pairs, usual-back}
 use Rattle.gix_signature.proofs.Idents.Passing.{cut, tail, shown, no-message, is_whole}
 
@@ -89,22 +88,6 @@ date-of d ds s zs h number zone =
       some = some-digit zs zone.four zone.digits;
     }
 
-begins-so : (rest : List ℕ) (byte : ℕ) → begins_with (λ c. c == byte) rest ≡ true → rest ≡ byte ∷ drop 1 rest
-begins-so [] byte h = absurd cc
-begins-so (c ∷ rest) byte h = let same : c ≡ byte = grind (arith, nat_tests, h) in ap (λ x. x ∷ rest) same
-
-pub cut_is : (text part rest more : List ℕ) (n byte : ℕ) → n ≡ prefix_len is_allowed text → part ≡ take n text → rest ≡ drop n text
-    → rest ≡ (byte ∷ []) ++ more → (text ≡ part ++ (byte ∷ more)) × (is_part part ≡ true)
-cut_is text part rest more n byte at is_part_of is_rest h = (
-  sym (take-append-drop n text) ∙ ap₂ (λ a b. a ++ b) (sym is_part_of) (sym is_rest ∙ h),
-  ap is_part (is_part_of ∙ ap (λ k. take k text) at) ∙ run-passes is_allowed text,
-)
-
-single : (last : List ℕ) (byte : ℕ) → length last ≡ 1 → begins_with (λ c. c == byte) last ≡ true → last ≡ byte ∷ []
-single [] byte e h = absurd cc
-single (c ∷ []) byte e h = begins-so (c ∷ []) byte h
-single (c ∷ (d ∷ more)) byte e h = absurd (omega (arith, e))
-
 -- the last byte of a text tells that no blank ends it
 pub plain_end : (text : List ℕ) (n : ℕ) → (length text == 0) ≡ false → n ≡ length text - 1 → 32 < get_or text n 0
     → without_end is_blank text ≡ text
@@ -116,12 +99,6 @@ plain_end text n some at above =
     let no-blank : is_blank c ≡ false = grind (arith, nat_tests, same, above) in
     let whole : take i text ++ (c ∷ []) ≡ text = sym (take_at_read text i 0 room).1 ∙ take_all (i + 1) text (omega arith) in
     subst (λ xs. without_end is_blank xs ≡ xs) whole (end-stays is_blank (take i text) c no-blank)
-
-pub name_is : (text name last : List ℕ) → (length text == 0) ≡ false → name ≡ take (length text - 1) text
-    → last ≡ drop (length text - 1) text → begins_with (λ c. c == 32) last ≡ true → text ≡ name ++ (space ∷ [])
-name_is text name last some is_name is_last h =
-    let one : length last ≡ 1 = ap (λ (l : List ℕ). length l) is_last ∙ grind (arith, nat_tests, length-drop, some) in
-    sym (take-append-drop (length text - 1) text) ∙ ap₂ (λ a b. a ++ b) (sym is_name) (sym is_last ∙ single last 32 one h)
 
 pub date_is : (date seconds rest offset : List ℕ) (n : ℕ) → list_all is_ascii_digit (take n date) ≡ true → seconds ≡ take n date
     → rest ≡ drop n date

@@ -10,14 +10,11 @@ use super::bytes::{after_one, begins_with, digits_len};
 use super::written::after;
 use super::{DateParts, GitTime, IdentPlaces, IdentRef, time_of};
 use crate::fsck::is_fsck_zone;
-use crate::lines::is_allowed;
+use crate::parts::{before_last_space, cut_part};
 use std::simd::prelude::*;
 
 /// The most digits of the seconds of such a line.
 const MOST_DIGITS: usize = 18;
-
-/// How many bytes a block has in which a part's end is looked for at once.
-const NEAR: usize = 32;
 
 /// How many bytes a block has in which digits are counted at once.
 const NEAR_DIGITS: usize = 16;
@@ -148,61 +145,12 @@ fn usual_line(line: &[u8]) -> Option<UsualLine<'_>>
     })
 }
 
-/// A part at the front of a text, and what stands after it and this byte.
-#[tactic(auto, using(crate::proofs::Idents::Usual::cut_is))]
-fn cut_part(text: &[u8], byte: u8) -> Option<(&[u8], &[u8])>
-    ensures { IfSome result (λ cut. (text.now ≡ cut.0.now ++ (byte ∷ cut.1.now)) × (Spec.is_part cut.0.now ≡ true)) }
-{
-    let (part, rest) = text.split_at(part_len(text));
-    let more = after(rest, &[byte])?;
-    Some((part, more))
-}
-
-/// How many bytes a text begins with that may stand in a part. Most parts end within one block.
-#[tactic(auto, using(crate::proofs::Idents::Near::part_near))]
-fn part_len(text: &[u8]) -> usize
-    ensures value { result ≡ prefix_len Spec.is_allowed text.now }
-    ensures within { result ≤ length text.now }
-{
-    if text.len() >= NEAR {
-        let bracket = near_place(text, b'<').min(near_place(text, b'>'));
-        let end = near_place(text, b'\n').min(near_place(text, b'\0'));
-        let len = bracket.min(end);
-        if len < NEAR {
-            return len;
-        }
-    }
-    text.iter().take_while(|b| is_allowed(**b)).count()
-}
-
-/// The place of a byte in the first block of a text, or the block's length.
-#[inline(always)]
-fn near_place(text: &[u8], byte: u8) -> usize
-    requires { NEAR ≤ length text.now }
-    ensures { result ≡ position_or_len (λ c. c == byte) (take NEAR text.now) }
-{
-    let block = u8x32::from_slice(text);
-    let places = block.simd_eq(u8x32::splat(byte)).to_bitmask();
-    if places == 0 {
-        return NEAR;
-    }
-    places.trailing_zeros() as usize
-}
-
 /// What stands before the space at the end of a text, where a byte above a space ends that. `None` says nothing of a text.
-#[tactic(auto, using(crate::proofs::Idents::Usual::name_is))]
 fn before_space(text: &[u8]) -> Option<&[u8]>
     ensures { IfSome result (λ name. (text.now ≡ name.now ++ (GixDate.space ∷ [])) × (Spec.without_end Spec.is_blank name.now ≡ name.now)) }
 {
-    if text.is_empty() {
-        return None;
-    }
-    let (name, last) = text.split_at(text.len() - 1);
-    if begins_with(last, b' ') && ends_above_space(name) {
-        Some(name)
-    } else {
-        None
-    }
+    let name = before_last_space(text)?;
+    ends_above_space(name).then_some(name)
 }
 
 /// Whether a byte above a space ends a text, or it is empty: then no blank ends it.

@@ -6,7 +6,7 @@ ghost use Rattle.gix_signature.specs as Spec;
 
 use super::bytes::line_len;
 use super::{GitTime, IdentRef};
-use crate::lines::is_part;
+use crate::parts::is_part;
 use arrayvec::ArrayString;
 use gix_date::clock::push_two_digits;
 

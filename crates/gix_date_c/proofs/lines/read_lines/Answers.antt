@@ -16,9 +16,9 @@ lines-preserved c =
     let stored = c.store_answer.new in
     let newer : Columns = record { seconds = stored.seconds; offsets = stored.offsets; statuses = stored.statuses } in
     let room = subst (λ (n : ℕ). c.lines.done < n) c.room-room.ensures c.in-Some.ensures.0 in
-    Reading-next (IsLineRead c.args.reader.now) c.args.block.now old new newer c.lines.left.now c.in-Some.line.now c.in-Some.after.now
-    c.lines.done
-    c.read.result c.lines.invariant room c.in-Some.ensures.1 c.read.ensures c.store_answer.ensures
+    let read = c.in-Some.ensures.1 in
+    Reading-next (IsLineRead c.args.reader.now) c.args.block.now old new newer c.lines.left.now read.line c.in-Some.after.now c.lines.done
+    c.in-Some.answer c.lines.invariant room read.cut read.reads c.store_answer.ensures
 
 pub returns : goal.returns
 returns c =

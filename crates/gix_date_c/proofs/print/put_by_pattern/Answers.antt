@@ -1,7 +1,7 @@
-use Rattle.std.proofs.Common.{◌≡◌, rules, ℕ, List, IsUtf8, Ok, Err, Some, IfSome, sym, subst}
+use Rattle.std.proofs.Common.{◌≡◌, arith, rules, ℕ, List, IsUtf8, Ok, Err, Some, IfSome, sym, subst}
 use Rattle.gix_date.specs.Printing.Formats.{IsPatternText}
 use Rattle.gix_date.specs.declared.time.Time.{Time}
-use Rattle.gix_date_c.specs.Printing.{PrintsPatternSo}
+use Rattle.gix_date_c.specs.Printing.{IsPrinted, PrintsPatternSo}
 use Rattle.gix_date_c.specs.Values.Times.{load_time}
 use Rattle.gix_date_c.proofs.Printed.{not_text-refused, pattern-prints, text-printed, text-by_pattern}
 use Rattle.gix_date_c.proofs.print.put_by_pattern.Goals as goal
@@ -21,9 +21,27 @@ returns-in-Some c =
     let of_time = subst (λ (t : Time). IsPatternText t c.in-Ok.pattern.now c.in-Some.text.bytes) c.load_time-time.ensures of_printed in
     let of_pattern = subst (λ (p : List ℕ). IsPatternText t p c.in-Some.text.bytes) c.in-Ok.ensures.0 of_time in
     let is = subst (λ (text : List ℕ). IsPatternText t pattern text) (sym c.as_str.ensures.value) of_pattern in
-    let printed = text-printed (PrintsPatternSo c.args.or_unix t pattern) c.args.alloc text c.as_str.ensures.fits is_text
+    let printed = text-printed (PrintsPatternSo c.args.or_unix t pattern) c.args.alloc text (omega (arith, c.as_str.ensures.fits)) is_text
     (λ s bytes. pattern-prints c.args.or_unix t pattern text s is bytes) in (
       Ok text,
       text-by_pattern (PrintsPatternSo c.args.or_unix t pattern) _ (Ok text) c.in-Ok.ensures.1 printed,
       c.store_text-in-Some.ensures,
     )
+
+pub returns-in-None : goal.returns-in-None
+returns-in-None c =
+    let t = load_time c.args.time.now in
+    let put = c.put_unnamed-in-None.ensures in
+    let of_time =
+    subst (λ (t : Time). IsPrinted (PrintsPatternSo c.args.or_unix t c.in-Ok.pattern.now) put.0) c.load_time-time.ensures put.1 in
+    let of_pattern = subst (λ (p : List ℕ). IsPrinted (PrintsPatternSo c.args.or_unix t p) put.0) c.in-Ok.ensures.0 of_time in
+    (put.0, text-by_pattern (PrintsPatternSo c.args.or_unix t c.args.pattern.now) _ put.0 c.in-Ok.ensures.1 of_pattern, put.2)
+
+pub returns-then-not-may_be_named : goal.returns-then-not-may_be_named
+returns-then-not-may_be_named c =
+    let t = load_time c.args.time.now in
+    let put = c.put_unnamed.ensures in
+    let of_time =
+    subst (λ (t : Time). IsPrinted (PrintsPatternSo c.args.or_unix t c.in-Ok.pattern.now) put.0) c.load_time-time.ensures put.1 in
+    let of_pattern = subst (λ (p : List ℕ). IsPrinted (PrintsPatternSo c.args.or_unix t p) put.0) c.in-Ok.ensures.0 of_time in
+    (put.0, text-by_pattern (PrintsPatternSo c.args.or_unix t c.args.pattern.now) _ put.0 c.in-Ok.ensures.1 of_pattern, put.2)

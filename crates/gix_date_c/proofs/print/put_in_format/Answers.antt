@@ -1,4 +1,4 @@
-use Rattle.std.proofs.Common.{◌≡◌, rules, ℕ, List, IsUtf8, Ok, Some, IfSome, sym, subst}
+use Rattle.std.proofs.Common.{◌≡◌, arith, rules, ℕ, List, IsUtf8, Ok, Some, IfSome, sym, subst}
 use Rattle.gix_date.specs.Printing.Formats.{IsTextOf}
 use Rattle.gix_date.specs.declared.time.Time.{Time}
 use Rattle.gix_date_c.specs.Printing.{PrintsSo}
@@ -17,6 +17,6 @@ returns-in-Some c =
     subst (λ o. IfSome o (λ text. IsTextOf c.load_time.result format text.bytes)) is_some c.format_to_buf-printed.ensures.text in
     let of_time = subst (λ (t : Time). IsTextOf t format c.in-Some.text.bytes) c.load_time.ensures of_printed in
     let is = subst (λ (text : List ℕ). IsTextOf t format text) (sym c.as_str.ensures.value) of_time in
-    let printed = text-printed (PrintsSo c.args.or_unix t format) c.args.alloc text c.as_str.ensures.fits is_text
+    let printed = text-printed (PrintsSo c.args.or_unix t format) c.args.alloc text (omega (arith, c.as_str.ensures.fits)) is_text
     (λ s bytes. text-prints c.args.or_unix t format text s is bytes) in
     (Ok text, printed, c.store_text.ensures)

@@ -17,7 +17,7 @@ pub pieces-preserved : goal.pieces-preserved
 pieces-preserved g c = (
   search rules,
   left-passed (shown_of c.args.shown.now) c.args.text.now c.pieces.rest.now _ c.args.out.now.bytes _ _ c.pieces.invariant.1
-      (omega (arith, c.in-Some.ensures.shorter)) c.in-Some.ensures,
+      (omega (arith, c.in-Some.ensures.passes.shorter)) c.in-Some.ensures.passes,
 )
 
 pub returns-clause-whole : goal.returns-clause-whole

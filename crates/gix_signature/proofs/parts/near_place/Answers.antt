@@ -1,5 +1,5 @@
 use Rattle.gix_signature.proofs.Idents.Near.{first_near, none_near}
-use Rattle.gix_signature.proofs.ident.usual.near_place.Goals as goal
+use Rattle.gix_signature.proofs.parts.near_place.Goals as goal
 
 pub returns : goal.returns
 returns c = first_near c.args.text.now c.args.byte c.requires c.if-places-eq0.false
