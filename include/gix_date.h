@@ -519,7 +519,8 @@ uint32_t gix_date_format_or_unix(const gix_date_time *time, uint32_t format, cha
                                  size_t out_len, size_t *len) GIX_DATE_NONNULL(1, 5);
 
 /* Writes a time by a pattern of strftime, with the directives of jiff. Takes memory for the text,
- * but for the patterns of named formats where gix_date_format takes none.
+ * but for the patterns of named formats where gix_date_format takes none, and then also for usual
+ * ones: ASCII, %Y, %m, %d, %e, %H, %M, %S, %F, %T, %a, %b and %z, of a text of 120 bytes at most.
  * GIX_DATE_NO_ROOM, GIX_DATE_NOT_TEXT, GIX_DATE_CONVERSION, GIX_DATE_PATTERN,
  * GIX_DATE_OUT_OF_MEMORY. */
 GIX_DATE_MUST_USE

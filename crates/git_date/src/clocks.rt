@@ -106,7 +106,7 @@ pub(crate) fn zone_clock(seconds: i64, zone: TimeZone<'_>) -> Option<Clock>
     let Ok(instant) = Timestamp::from_second(seconds) else {
         unreachable!()
     };
-    let offset = offset_in(zone, seconds, instant);
+    let offset = offset_in(&zone, seconds, instant);
     let shown = Clock::of(Time::new(seconds, offset));
     Some(shown.with_offset(known_offset(shown)))
 }

@@ -57,7 +57,7 @@ pub(crate) fn state_at(zone: TimeZone<'_>, seconds: i64) -> Option<ZoneState>
     if !is_instant(seconds) {
         return None;
     }
-    if let Some(there) = state_by_rule(zone, seconds) {
+    if let Some(there) = state_by_rule(&zone, seconds) {
         return Some(there);
     }
     if let Ok(offset) = zone.to_fixed_offset() {
@@ -78,10 +78,10 @@ pub(crate) fn state_at(zone: TimeZone<'_>, seconds: i64) -> Option<ZoneState>
 
 /// The zone's offset at an instant in this second, in seconds east of UTC: what `jiff` says, which takes longer for a rule.
 #[inline(always)]
-pub fn offset_in(zone: TimeZone<'_>, seconds: i64, instant: Timestamp) -> i32
+pub fn offset_in(zone: &TimeZone<'_>, seconds: i64, instant: Timestamp) -> i32
     requires within { GixDate.is_instant seconds ≡ true }
     requires second { Spec.whole_second instant.nanosecond ≡ seconds }
-    ensures value { result ≡ offset_at (plain_zone zone.entry) instant.nanosecond }
+    ensures value { result ≡ offset_at (plain_zone zone.now) instant.nanosecond }
     ensures near { IsOffsetSeconds result }
 {
     match state_by_rule(zone, seconds) {

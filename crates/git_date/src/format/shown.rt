@@ -61,7 +61,7 @@ fn zone_shown_by(clock: Clock, seconds: i64, zone: TimeZone<'_>) -> Shown
     let Ok(instant) = Timestamp::from_second(seconds) else {
         unreachable!()
     };
-    let offset = offset_in(zone, seconds, instant);
+    let offset = offset_in(&zone, seconds, instant);
     Shown {
         clock,
         seconds: seconds_said(clock, counted(seconds, offset, clock.offset())),

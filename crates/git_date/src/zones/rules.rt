@@ -31,12 +31,12 @@ struct Year {
 /// What a zone of a rule says of an instant in this second. `None` says nothing: the zone has another kind, or its rule counts
 /// days of the year, or changes as the year does.
 #[inline(always)]
-pub(crate) fn state_by_rule(zone: TimeZone<'_>, seconds: i64) -> Option<ZoneState>
+pub(crate) fn state_by_rule(zone: &TimeZone<'_>, seconds: i64) -> Option<ZoneState>
     requires { GixDate.is_instant seconds ≡ true }
-    ensures value { IfSome result (λ there. (n : ℤ) → Spec.whole_second n ≡ seconds → there ≡ Spec.state_there (plain_zone zone.entry) n) }
+    ensures value { IfSome result (λ there. (n : ℤ) → Spec.whole_second n ≡ seconds → there ≡ Spec.state_there (plain_zone zone.now) n) }
     ensures near { IfSome result (λ there. IsOffsetSeconds there.offset) }
 {
-    if is_rule(&zone) {
+    if is_rule(zone) {
         state_of_rule(zone, seconds)
     } else {
         None
@@ -52,9 +52,9 @@ fn is_rule(zone: &TimeZone<'_>) -> bool {
 /// The same, apart from what other zones ask.
 #[inline(never)]
 #[tactic(auto, using(gix_date::proofs::Text::Ints::held, crate::proofs::Exact::RuleYears::standard_always, crate::proofs::Exact::RuleYears::standard_there, crate::proofs::Exact::RuleYears::daylight_there))]
-fn state_of_rule(zone: TimeZone<'_>, seconds: i64) -> Option<ZoneState>
+fn state_of_rule(zone: &TimeZone<'_>, seconds: i64) -> Option<ZoneState>
     requires { GixDate.is_instant seconds ≡ true }
-    ensures value { IfSome result (λ there. (n : ℤ) → Spec.whole_second n ≡ seconds → there ≡ Spec.state_there (plain_zone zone.entry) n) }
+    ensures value { IfSome result (λ there. (n : ℤ) → Spec.whole_second n ≡ seconds → there ≡ Spec.state_there (plain_zone zone.now) n) }
     ensures near { IfSome result (λ there. IsOffsetSeconds there.offset) }
 {
     let jiff_tz::TimeZone::Posix(rule) = zone.to_plain() else {

@@ -27,15 +27,15 @@ fn offset_at(instant: &CInstant, zone: Result<TimeZone<'_>, Status>) -> Result<i
 {
     let zone = zone?;
     let now = timestamp_of(instant)?;
-    Ok(offset_there(zone, instant, now))
+    Ok(offset_there(&zone, instant, now))
 }
 
 /// The offset of a zone at an instant that `jiff` has. Nanoseconds below 0 reach back into the second before.
 #[tactic(auto, using(gix_date::proofs::Text::Ints::held, crate::proofs::Instants::in_second, crate::proofs::Instants::of_instant))]
 #[inline(always)]
-fn offset_there(zone: TimeZone<'_>, instant: &CInstant, now: Timestamp) -> i32
+fn offset_there(zone: &TimeZone<'_>, instant: &CInstant, now: Timestamp) -> i32
     requires { Spec.nanos_of instant.now ≡ Ok now.nanosecond }
-    ensures { result ≡ zone_offset_at (plain_zone zone.entry) now.nanosecond }
+    ensures { result ≡ zone_offset_at (plain_zone zone.now) now.nanosecond }
 {
     if instant.nanoseconds < 0 {
         return zone.to_offset(now).seconds();
