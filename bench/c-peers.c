@@ -36,6 +36,45 @@ static long by_strftime(const char *pattern)
     return (long)strftime(text, sizeof text, pattern, &clock);
 }
 
+/* The seconds and the offset of a header. */
+static long header_by_strtoll(const char *text)
+{
+    char *end;
+    long long seconds = strtoll(text, &end, 10);
+    long zone = strtol(end, &end, 10);
+    return *end == '\0' ? (long)seconds - (zone / 100 * 60 + zone % 100) * 60 : -1;
+}
+
+/* The bytes of a line, or of what stands last in it. */
+static long by_snprintf(char kind)
+{
+    char text[96];
+    if (kind == 'S')
+        return snprintf(text, sizeof text, "%s <%s> %lld %+05d", "A U Thor", "author@example.com", 1660797906LL, 800);
+    if (kind == 'H')
+        return snprintf(text, sizeof text, "%lld %+05d", 1660797906LL, 800);
+    return snprintf(text, sizeof text, "%+05d", 800);
+}
+
+/* The offset of the process's zone at an instant. */
+static long by_localtime(void)
+{
+    time_t seconds = 1698400800;
+    struct tm clock;
+    localtime_r(&seconds, &clock);
+    return clock.tm_gmtoff;
+}
+
+/* Reads a zone, after another one, of which nothing is read. */
+static long by_tzset(const char *name)
+{
+    setenv("TZ", "UTC0", 1);
+    tzset();
+    setenv("TZ", name, 1);
+    tzset();
+    return timezone;
+}
+
 #ifdef HAS_GLIB
 static long by_glib(const char *text)
 {
@@ -82,6 +121,16 @@ static long call(char kind, const char *text)
         return by_strptime(text, "%a %b %d %H:%M:%S %Y %z");
     case 'f':
         return by_strftime(text);
+    case 'h':
+        return header_by_strtoll(text);
+    case 'S':
+    case 'H':
+    case 'N':
+        return by_snprintf(kind);
+    case 'l':
+        return by_localtime();
+    case 'z':
+        return by_tzset(text);
 #ifdef HAS_GLIB
     case 'g':
         return by_glib(text);
@@ -99,6 +148,10 @@ int main(int argc, char **argv)
     long count;
     if (argc != 4)
         return 2;
+    /* Once: `localtime_r` need not look at it again. */
+    if (argv[1][0] == 'l')
+        setenv("TZ", argv[2], 1);
+    tzset();
     for (count = atol(argv[3]); count > 0; count--)
         answer = call(argv[1][0], argv[2]);
     printf("%ld\n", answer);

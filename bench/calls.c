@@ -12,7 +12,7 @@ static const gix_date_time day = {1660797906, 28800};
 static const gix_date_git_time of_line = {1660797906, 800, false};
 static const gix_date_careful_options usual = {0, 0, 0};
 static const gix_date_careful_options local = {GIX_DATE_QUARTERS, GIX_DATE_MOMENTS_ZONE, 0};
-static gix_date_zone zone;
+static gix_date_zone zone, copy;
 static char bytes[1 << 16];
 static size_t bytes_len;
 
@@ -24,9 +24,12 @@ static uint32_t call(char kind, uint32_t format, const char *text, size_t len)
     git_date_approximate guess;
     gix_date_ident_parts ident;
     gix_date_signature parts;
-    char out[64];
+    git_date_expiry expiry;
+    git_date_age age;
+    char out[96];
     size_t out_len, place;
     int32_t offset;
+    uint32_t status;
     switch (kind) {
     case 'h':
         return gix_date_parse_header(text, len, &time);
@@ -70,6 +73,39 @@ static uint32_t call(char kind, uint32_t format, const char *text, size_t len)
         return gix_date_offset_at(&now, &zone, &offset);
     case 'Z':
         return gix_date_zone_read(bytes, bytes_len, &zone);
+    case 'z':
+        return gix_date_zone_named(text, len, bytes, bytes_len, &zone);
+    case 'Y':
+        return gix_date_zone_find(text, NULL, &zone);
+    case 'y':
+        status = gix_date_zone_copy(&zone, &copy);
+        gix_date_zone_free(&copy);
+        return status;
+    case 'K':
+        return gix_date_parse_carefully(text, len, &usual, &time, &place);
+    case 'U':
+        return gix_date_format_by_pattern_or_unix(&day, text, len, out, sizeof out, &out_len);
+    case 'W':
+        return gix_date_write_signature("A U Thor", 8, "author@example.com", 18, &day, out, sizeof out,
+                                        &out_len);
+    case 'V':
+        return gix_date_write_ident("A U Thor", 8, "author@example.com", 18, &day, out, sizeof out,
+                                    &out_len);
+    case 'v':
+        return gix_date_write_ident_as_is("A U Thor", 8, "author@example.com", 18, &of_line, out,
+                                          sizeof out, &out_len);
+    case 'T':
+        return gix_date_git_time_text(&of_line, out, sizeof out, &out_len);
+    case 'n':
+        return gix_date_ident_time(&of_line, &time);
+    case 'x':
+        return git_date_expiry_at(text, len, &now, &zone, &expiry, &place);
+    case 'G':
+        return git_date_age_at(&day, &now, &age);
+    case 'O':
+        return git_date_parse_offset(text, len, &offset);
+    case 'N':
+        return git_date_offset_text(day.offset, out, sizeof out, &out_len);
     default:
         return gix_date_format(&day, format, out, sizeof out, &out_len);
     }

@@ -131,6 +131,12 @@ static void relative_dates(void)
            "beyond the last instant");
     EXPECT(gix_date_parse_at(TEXT("now"), 0, &odd, AT(0), &time) == GIX_DATE_INVALID_INSTANT,
            "a second of nanoseconds");
+    EXPECT(gix_date_parse_at(TEXT("2018-12-24"), 0, &odd, AT(0), &time) == GIX_DATE_INVALID_INSTANT,
+           "a date that needs no instant");
+    EXPECT(gix_date_parse_at(TEXT("2018-12-24"), 0, &odd, AT(93600), &time) == GIX_DATE_INVALID_ZONE,
+           "a date that needs no zone, which is looked at first");
+    EXPECT(gix_date_parse_at(TEXT("2018-12-24"), 7, &now, AT(0), &time) == GIX_DATE_NO_SUCH_OPTION,
+           "a date that no rule needs");
     EXPECT(gix_date_parse_at(BYTES("\xff"), 0, &now, AT(0), &time) == GIX_DATE_NOT_TEXT,
            "no text");
     EXPECT(gix_date_parse_at(TEXT("banana"), 0, &now, AT(0), &time) == GIX_DATE_UNKNOWN_FORMAT,

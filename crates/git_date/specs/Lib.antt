@@ -25,7 +25,7 @@ unfoldable pub use Approximate.Zones.{filled_time}
 unfoldable pub use Exact.Computing.{computing}
 unfoldable pub use Exact.Decimals.{with_sign, offset_from_decimal, offset_to_decimal}
 unfoldable pub use Exact.Fast.{is_date_mark, marked_date, WritesAnyClock, fields_in, day_fields, local_fields, SaysFields}
-unfoldable pub use Exact.Fast.{said_alone, Says, SaysDate, SaysIn, has_few_digits}
+unfoldable pub use Exact.Fast.{said_alone, Says, SaysDate, Tells, has_few_digits}
 pub use Exact.Fast.{WritesTwo, WritesYear, WritesMonth, WritesWeekday, IsGitDate, WritesDate, WritesDay}
 pub use Exact.Fast.{WritesMonthYear, WritesMailDate, WritesMailDay, WritesNamedDay, WritesClock, WritesShortClock}
 pub use Exact.Fast.{WritesSpacedClock, WritesOffset, WritesTime, WritesStrictTime, WritesYearOffset, WritesYearTime}
@@ -37,8 +37,8 @@ unfoldable pub use Exact.Places.{IsTextZone, IsZoneWithoutFile, data_len, says_l
 unfoldable pub use Exact.Places.{table_error, IsNoTable, IsTable}
 unfoldable pub use Exact.Reading.{ended, sign_rule, rule, nothing_read, read_on, step, steps, reading_of, place_in, error_of}
 unfoldable pub use Exact.Reading.{at_said, by_seconds, fields_said, at_or_fields, string_said, said_up_to, said_by}
-unfoldable pub use Exact.RuleYears.{whole_second, IsDaylight}
-pub use Exact.RuleYears.{IsYearAt, ChangesAt}
+unfoldable pub use Exact.RuleYears.{whole_second, change_second, IsDaylight}
+pub use Exact.RuleYears.{IsChange}
 unfoldable pub use Exact.ZoneTexts.{distance, IsNear, signed, signed_hours, signed_clock, zone_offset}
 unfoldable pub use Exact.Zones.{States, daylight_at, state_there, states_of, one_offset, state_by, is_same, same_flag, flagged}
 unfoldable pub use Exact.Zones.{flag_step, flag_steps, flagged_at, nearest, hour_off, by_flag, first_trail, moved, stops, is_back}

@@ -1,5 +1,6 @@
 //! The approximate reader of dates: one token after the other.
 ghost use Rattle.std.specs.Prelude.{◌≡◌, ◌≤◌, length, IfOk, Err};
+ghost use Rattle.jiff.specs.Words.{plain_zone};
 ghost use Rattle.git_date.specs as Spec;
 ghost use Rattle.gix_date.specs as GixDate;
 
@@ -17,6 +18,7 @@ use crate::tokens::{Token, next_token, up_to_nul};
 use drafts::Draft;
 pub use expiry::{Expiry, expiry_date};
 use gix_date::{Time, Zoned};
+use jiff::tz::TimeZone;
 use rules::{digits_rule, letters_rule};
 use zone::{ZoneClock, filled_time, shown_in};
 
@@ -49,19 +51,19 @@ pub fn approxidate(text: &[u8], now: Zoned<'_>) -> Result<Approximate, DateError
 
 /// What a token makes of a draft, and what is left to read. Marks say nothing.
 fn rule<'a>(
-    moment: Zoned<'_>,
+    zone: &TimeZone<'_>,
     today: &Today,
     draft: Draft,
     token: Token<'_>,
     text: &'a [u8],
 ) -> Result<(Draft, &'a [u8]), Fault>
-    ensures value { Spec.step_view result ≡ Spec.approximate_rule (Spec.states_of (GixDate.zone_of moment.entry)) today.entry.now draft
+    ensures value { Spec.step_view result ≡ Spec.approximate_rule (Spec.states_of (plain_zone zone.now)) today.entry.now draft
         (Spec.token_of token.entry) (Spec.tokens text.now) }
     ensures shorter { IfOk result (λ found. length found.1.now ≤ length text.now) }
 {
     match token {
         Token::Letters(run) => Ok((
-            letters_rule(moment, today.shown.clock, draft, run, text)?,
+            letters_rule(zone, today.shown.clock, draft, run, text)?,
             text,
         )),
         Token::Digits(run) => {
@@ -73,13 +75,13 @@ fn rule<'a>(
 }
 
 /// What the tokens of a text say, one after the other.
-pub(crate) fn draft_of(moment: Zoned<'_>, today: &Today, text: &[u8]) -> Result<Draft, Fault>
-    ensures { result ≡ Spec.draft_of (Spec.states_of (GixDate.zone_of moment.entry)) today.entry.now text.now }
+pub(crate) fn draft_of(zone: &TimeZone<'_>, today: &Today, text: &[u8]) -> Result<Draft, Fault>
+    ensures { result ≡ Spec.draft_of (Spec.states_of (plain_zone zone.now)) today.entry.now text.now }
 {
     let mut draft = Draft::first(today.shown);
     let mut rest = text;
     'tokens: while let Some((token, after)) = next_token(rest) {
-        let (next, later) = match rule(moment, today, draft, token, after) {
+        let (next, later) = match rule(zone, today, draft, token, after) {
             Ok(step) => step,
             Err(fault) => return Err(fault),
         };
@@ -130,13 +132,13 @@ fn answer(text: &[u8], draft: Draft, time: Option<Time>) -> Result<Approximate, 
 }
 
 /// The answer of what the tokens say, with the number settled that still waits.
-fn answer_of(moment: Zoned<'_>, today: &Today, text: &[u8]) -> Result<Approximate, DateError>
-    ensures { result ≡ Spec.answer_of (Spec.states_of (GixDate.zone_of moment.entry)) today.entry.now text.now
-        (Spec.draft_of (Spec.states_of (GixDate.zone_of moment.entry)) today.entry.now text.now) }
+fn answer_of(zone: &TimeZone<'_>, today: &Today, text: &[u8]) -> Result<Approximate, DateError>
+    ensures { result ≡ Spec.answer_of (Spec.states_of (plain_zone zone.now)) today.entry.now text.now
+        (Spec.draft_of (Spec.states_of (plain_zone zone.now)) today.entry.now text.now) }
 {
-    let draft = draft_of(moment, today, text).map_err(|fault| error_of(text, fault))?;
+    let draft = draft_of(zone, today, text).map_err(|fault| error_of(text, fault))?;
     let last = draft.settle();
-    let time = filled_time(moment, today.shown.clock, last.last, last.fields);
+    let time = filled_time(zone, today.shown.clock, last.last, last.fields);
     answer(text, last, time)
 }
 
@@ -146,8 +148,9 @@ fn string_guess(moment: Zoned<'_>, text: &[u8]) -> Result<Approximate, DateError
     ensures { result ≡ Spec.string_guess (Spec.states_of (GixDate.zone_of moment.entry)) (Spec.now_of moment.entry) text.now }
 {
     let now = Now::of(moment.timestamp());
-    let shown = shown_in(moment, now.seconds).ok_or(DateError::Range)?;
-    answer_of(moment, &Today { now, shown }, text)
+    let zone = moment.time_zone();
+    let shown = shown_in(&zone, now.seconds).ok_or(DateError::Range)?;
+    answer_of(&zone, &Today { now, shown }, text)
 }
 
 /// What the approximate reader makes of a text, up to its first NUL.

@@ -6,20 +6,23 @@ ghost use Rattle.jiff.specs.Words.{plain_zone};
 
 use crate::clocks::is_instant;
 use crate::error::{DateError, Fault};
-use crate::fast::{default, iso8601, iso8601_strict, local, offset, rfc2822, two};
+use crate::fast::{default, iso8601, iso8601_strict, local, offset, rfc2822};
 use crate::fields::Fields;
 use crate::fields::dates::{Now, exact_seconds};
-use crate::fields::digits::{Stepped, digits_rule};
+use crate::fields::digits::{MIN_EPOCH, Stepped, digits_rule};
 use crate::fields::offsets::{at_text, offset_rule};
 use crate::tokens::words::{letters_rule, without_ending};
 use crate::tokens::{Token, is_end, next_token, up_to_nul};
 use crate::zones::{Asked, before_leap, found_offset};
-use gix_date::{Time, Zoned};
+use gix_date::{Time, Zoned, parse_ten_digits};
 use jiff::Timestamp;
 use jiff::tz::TimeZone;
 
 /// How many bytes `1660797906 +0800` has.
 const RAW_LEN: usize = 16;
+
+/// The first second after the years that Git knows.
+const FIRST_OF_YEAR_2100: u64 = 4_102_444_800;
 
 /// What was read so far.
 #[derive(Clone, Copy)]
@@ -76,6 +79,7 @@ impl Reading {
 
 /// What a sign says. Only directly before digits Git reads an offset.
 #[tactic(auto, unfolding(crate::specs::sign_rule))]
+#[inline(always)]
 fn sign_rule<'a>(fields: Fields, behind: bool, text: &'a [u8]) -> Stepped<'a>
     ensures value { Spec.step_view result ≡ Spec.sign_rule fields behind (Spec.tokens text.now) }
     ensures shorter { IfOk result (λ found. length found.1.now ≤ length text.now) }
@@ -171,23 +175,14 @@ fn at_said(seconds: u64, minutes: i16) -> Result<Said, DateError>
     Ok(said_at(seconds, minutes))
 }
 
-/// The seconds of ten digits, from 2001 on, in the years that Git knows.
+/// The seconds of ten digits, in the years that Git knows.
+#[tactic(auto, using(crate::proofs::Exact::FastSeconds::ten_digits))]
 #[inline(always)]
 fn seconds(text: &[u8]) -> Option<u64>
     ensures { IfSome result (Spec.WritesSeconds text.now) }
 {
-    match text {
-        [a, b, c, d, e, f, g, h, i, j] => {
-            let first = two(10, 40, *a, *b)?;
-            let second = two(0, 99, *c, *d)?;
-            let third = two(0, 99, *e, *f)?;
-            let fourth = two(0, 99, *g, *h)?;
-            let fifth = two(0, 99, *i, *j)?;
-            let front = 100 * (100 * u64::from(first) + u64::from(second)) + u64::from(third);
-            Some(100 * (100 * front + u64::from(fourth)) + u64::from(fifth))
-        }
-        _ => None,
-    }
+    let n = parse_ten_digits(text)?;
+    (MIN_EPOCH <= n && n < FIRST_OF_YEAR_2100).then_some(n)
 }
 
 /// The seconds and the minutes of offset of `1660797906 +0800`.
@@ -350,20 +345,26 @@ pub fn parse_date_at(
 {
     match printed_date(text) {
         Some(date) => Ok(date),
-        None => date_by_tokens(text, now, zone),
+        None => other_date(text, now, zone),
     }
 }
 
-/// What a text says, token by token. Apart, so that a date as Git prints it needs no stack for that.
+/// The date of a text that is not as Git prints dates. Apart, so that those need no stack for it: not even a copy of the zone.
 #[inline(never)]
-fn date_by_tokens(text: &[u8], now: Timestamp, zone: TimeZone<'_>) -> Result<ExactDate, DateError>
+fn other_date(text: &[u8], now: Timestamp, zone: TimeZone<'_>) -> Result<ExactDate, DateError>
     ensures { Spec.DateOutcomeAt now.nanosecond (plain_zone zone.entry) text.now result }
 {
-    if may_be_local(text) {
-        if let Some(answer) = date_without_offset(text, zone) {
-            return answer;
-        }
+    match local_said(text) {
+        Some(said) => date_said(said, &zone),
+        None => date_by_tokens(text, now, &zone),
     }
+}
+
+/// What a text says, token by token. Apart, so that other dates need no stack for that.
+#[inline(never)]
+fn date_by_tokens(text: &[u8], now: Timestamp, zone: &TimeZone<'_>) -> Result<ExactDate, DateError>
+    ensures { Spec.DateOutcomeAt now.nanosecond (plain_zone zone.now) text.now result }
+{
     date_said(said_by(now, text), zone)
 }
 
@@ -374,18 +375,21 @@ fn may_be_local(text: &[u8]) -> bool {
     matches!(text.len(), 10 | 11 | 16 | 19) && matches!(text[4], b'0'..=b'9' | b'-' | b'.' | b'/')
 }
 
-/// The date in the zone of seconds alone, or of a day and a clock. `None` means only that a text has another form. Apart, so that
-/// other dates do not pay for what it returns.
-#[tactic(auto, using(crate::proofs::Exact::SaidDates::seconds_in, crate::proofs::Exact::SaidDates::fields_in_zone))]
-#[inline(never)]
-fn date_without_offset(text: &[u8], zone: TimeZone<'_>) -> Option<Result<ExactDate, DateError>>
-    ensures { IfSome result (Spec.SaysIn (plain_zone zone.entry) text.now) }
+/// What seconds alone say, or a day and a clock. `None` means only that a text has another form.
+#[tactic(auto, using(crate::proofs::Exact::SaidDates::seconds_tell, crate::proofs::Exact::SaidDates::fields_tell))]
+#[inline(always)]
+fn local_said(text: &[u8]) -> Option<Result<Said, DateError>>
+    ensures says { IfSome result (Spec.Tells text.now) }
+    ensures instant { IfSome result (λ said. IfOk said Spec.SaidIsInstant) }
 {
+    if !may_be_local(text) {
+        return None;
+    }
     if let Some(seconds) = seconds_alone(text) {
-        return Some(date_said(Ok(said_alone(seconds)), zone));
+        return Some(Ok(said_alone(seconds)));
     }
     let fields = local(text)?;
-    Some(date_said(fields_said(text, Ok(Reading::of(fields))), zone))
+    Some(fields_said(text, Ok(Reading::of(fields))))
 }
 
 /// The date of a text as Git prints it, the same at each moment and in each zone. `None` means only that a text has another form, or is
@@ -446,9 +450,10 @@ fn said_date(text: &[u8], said: Said) -> Option<ExactDate>
 }
 
 /// The date that a text says, in the zone if it says no offset.
-fn date_said(said: Result<Said, DateError>, zone: TimeZone<'_>) -> Result<ExactDate, DateError>
+#[inline(always)]
+fn date_said(said: Result<Said, DateError>, zone: &TimeZone<'_>) -> Result<ExactDate, DateError>
     requires { IfOk said Spec.SaidIsInstant }
-    ensures { result ≡ Spec.date_of (plain_zone zone.entry) said }
+    ensures { result ≡ Spec.date_of (plain_zone zone.now) said }
 {
     let said = said?;
     match said.offset {
@@ -490,14 +495,15 @@ fn date_at(said: Said, minutes: i32) -> Result<ExactDate, DateError>
 }
 
 /// The date at the zone's offset where its clock shows these seconds. Git keeps whole minutes of an offset.
-fn date_in_zone(said: Said, zone: TimeZone<'_>) -> Result<ExactDate, DateError>
+#[inline(always)]
+fn date_in_zone(said: Said, zone: &TimeZone<'_>) -> Result<ExactDate, DateError>
     requires { Spec.SaidIsInstant said }
-    ensures { result ≡ Spec.date_in said (Spec.said_in (Spec.states_of (plain_zone zone.entry)) said) }
+    ensures { result ≡ Spec.date_in said (Spec.said_in (Spec.states_of (plain_zone zone.now)) said) }
 {
     let asked = Asked {
         clock: before_leap(said.leap, said.seconds),
         daylight: None,
     };
-    let offset = found_offset(zone, asked, 0).ok_or(DateError::Range)?;
+    let offset = found_offset(*zone, asked, 0).ok_or(DateError::Range)?;
     date_at(said, offset / 60)
 }

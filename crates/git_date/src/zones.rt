@@ -5,12 +5,14 @@ ghost use Rattle.jiff.specs.Words.{plain_zone, offset_at, IsOffsetSeconds};
 ghost use Rattle.git_date.specs as Spec;
 ghost use Rattle.gix_date.specs as GixDate;
 
+mod changes;
 mod rules;
 
 use crate::clocks::is_instant;
 use jiff::Timestamp;
 use jiff::tz::TimeZone;
-use rules::state_by_rule;
+use jiff_tz::TimeZone as Kind;
+use rules::{state_by_rule, state_of_rule};
 
 /// What a zone says of an instant.
 #[derive(Clone, Copy)]
@@ -50,21 +52,21 @@ const FLAG_STEP: i64 = 601_200;
 const FLAG_STEPS: u16 = 381;
 
 /// What the zone says of an instant. `None` if the seconds are those of none.
-pub(crate) fn state_at(zone: TimeZone<'_>, seconds: i64) -> Option<ZoneState>
-    ensures value { result ≡ Spec.states_of (plain_zone zone.entry) seconds }
+pub(crate) fn state_at(zone: &TimeZone<'_>, seconds: i64) -> Option<ZoneState>
+    ensures value { result ≡ Spec.states_of (plain_zone zone.now) seconds }
     ensures near { IfSome result (λ there. IsOffsetSeconds there.offset) }
 {
     if !is_instant(seconds) {
         return None;
-    }
-    if let Some(there) = state_by_rule(&zone, seconds) {
-        return Some(there);
     }
     if let Ok(offset) = zone.to_fixed_offset() {
         return Some(ZoneState {
             offset: offset.seconds(),
             daylight: false,
         });
+    }
+    if let Some(there) = state_by_rule(zone, seconds) {
+        return Some(there);
     }
     let Ok(at) = Timestamp::from_second(seconds) else {
         return None;
@@ -78,13 +80,30 @@ pub(crate) fn state_at(zone: TimeZone<'_>, seconds: i64) -> Option<ZoneState>
 
 /// The zone's offset at an instant in this second, in seconds east of UTC: what `jiff` says, which takes longer for a rule.
 #[inline(always)]
+#[tactic(auto, unfolding(jiff_tz::specs::Zone::offset_at))]
 pub fn offset_in(zone: &TimeZone<'_>, seconds: i64, instant: Timestamp) -> i32
     requires within { GixDate.is_instant seconds ≡ true }
     requires second { Spec.whole_second instant.nanosecond ≡ seconds }
     ensures value { result ≡ offset_at (plain_zone zone.now) instant.nanosecond }
     ensures near { IsOffsetSeconds result }
 {
-    match state_by_rule(zone, seconds) {
+    match zone.to_plain() {
+        Kind::UTC => 0,
+        Kind::Unknown => 0,
+        Kind::Fixed(offset) => offset.seconds,
+        Kind::Posix(_) => offset_of_rule(zone, seconds, instant),
+        Kind::Tzif(table) => table.to_offset(instant.to_plain()).seconds,
+    }
+}
+
+/// The same, apart from what zones of other kinds ask.
+fn offset_of_rule(zone: &TimeZone<'_>, seconds: i64, instant: Timestamp) -> i32
+    requires within { GixDate.is_instant seconds ≡ true }
+    requires second { Spec.whole_second instant.nanosecond ≡ seconds }
+    ensures value { result ≡ offset_at (plain_zone zone.now) instant.nanosecond }
+    ensures near { IsOffsetSeconds result }
+{
+    match state_of_rule(zone, seconds) {
         Some(there) => there.offset,
         None => zone.to_offset(instant).seconds(),
     }
@@ -109,8 +128,8 @@ pub(crate) fn earlier(seconds: i64, by: i64) -> i64
 }
 
 /// The zone's offset, if it has this flag at an instant.
-fn flagged(zone: TimeZone<'_>, flag: bool, seconds: i64) -> Option<i32>
-    ensures value { result ≡ Spec.flagged flag (Spec.states_of (plain_zone zone.entry) seconds) }
+fn flagged(zone: &TimeZone<'_>, flag: bool, seconds: i64) -> Option<i32>
+    ensures value { result ≡ Spec.flagged flag (Spec.states_of (plain_zone zone.now) seconds) }
     ensures near { IfSome result IsOffsetSeconds }
 {
     let there = state_at(zone, seconds)?;
@@ -119,10 +138,10 @@ fn flagged(zone: TimeZone<'_>, flag: bool, seconds: i64) -> Option<i32>
 
 /// The offset of a time with this flag at a distance from an instant. That before the instant comes first.
 #[tactic(auto, using(gix_date::proofs::Text::Ints::held, crate::proofs::Exact::Searches::instant_within, crate::proofs::Exact::Searches::found_before, crate::proofs::Exact::Searches::found_after))]
-fn flagged_at(zone: TimeZone<'_>, flag: bool, instant: i64, distance: i64) -> Option<i32>
+fn flagged_at(zone: &TimeZone<'_>, flag: bool, instant: i64, distance: i64) -> Option<i32>
     requires instant { GixDate.is_instant instant ≡ true }
     requires distance { IsWithin (10 ^ 16) distance }
-    ensures value { result ≡ Spec.flagged_at (Spec.states_of (plain_zone zone.entry)) flag instant distance }
+    ensures value { result ≡ Spec.flagged_at (Spec.states_of (plain_zone zone.now)) flag instant distance }
     ensures near { IfSome result IsOffsetSeconds }
 {
     let before = flagged(zone, flag, earlier(instant, distance));
@@ -133,9 +152,9 @@ fn flagged_at(zone: TimeZone<'_>, flag: bool, instant: i64, distance: i64) -> Op
 }
 
 /// The offset of the nearest time with this flag.
-fn nearest(zone: TimeZone<'_>, flag: bool, instant: i64) -> Option<i32>
+fn nearest(zone: &TimeZone<'_>, flag: bool, instant: i64) -> Option<i32>
     requires { GixDate.is_instant instant ≡ true }
-    ensures value { result ≡ Spec.nearest Spec.flag_steps (Spec.states_of (plain_zone zone.entry)) flag instant }
+    ensures value { result ≡ Spec.nearest Spec.flag_steps (Spec.states_of (plain_zone zone.now)) flag instant }
     ensures near { IfSome result IsOffsetSeconds }
 {
     'steps: for steps in 1..=FLAG_STEPS {
@@ -156,10 +175,10 @@ fn hour_off(flag: bool, offset: i32) -> i32
 
 /// The offset by which a clock is read where the zone shows it with another flag than is asked.
 #[tactic(auto, using(gix_date::proofs::Text::Ints::held, crate::proofs::Exact::Searches::clock_within))]
-fn by_other_flag(zone: TimeZone<'_>, flag: bool, clock: i64, offset: i32) -> i32
+fn by_other_flag(zone: &TimeZone<'_>, flag: bool, clock: i64, offset: i32) -> i32
     requires clock { GixDate.is_instant (clock -ℤ offset) ≡ true }
     requires near { IsOffsetSeconds offset }
-    ensures { result ≡ unwrap_or (Spec.nearest Spec.flag_steps (Spec.states_of (plain_zone zone.entry)) flag (clock -ℤ offset))
+    ensures { result ≡ unwrap_or (Spec.nearest Spec.flag_steps (Spec.states_of (plain_zone zone.now)) flag (clock -ℤ offset))
         (Spec.hour_off flag offset) }
 {
     let instant = earlier(clock, i64::from(offset));
@@ -168,10 +187,10 @@ fn by_other_flag(zone: TimeZone<'_>, flag: bool, clock: i64, offset: i32) -> i32
 
 /// The offset by which a clock is read that the zone shows there, perhaps with another flag than is asked.
 #[tactic(auto, using(gix_date::proofs::Text::Ints::held, crate::proofs::Exact::Searches::other_told))]
-fn by_flag(zone: TimeZone<'_>, asked: Asked, there: ZoneState) -> i32
+fn by_flag(zone: &TimeZone<'_>, asked: Asked, there: ZoneState) -> i32
     requires clock { GixDate.is_instant (asked.clock -ℤ there.offset) ≡ true }
     requires near { IsOffsetSeconds there.offset }
-    ensures { result ≡ Spec.by_flag (Spec.states_of (plain_zone zone.entry)) asked asked.daylight there }
+    ensures { result ≡ Spec.by_flag (Spec.states_of (plain_zone zone.now)) asked asked.daylight there }
 {
     let Some(flag) = asked.daylight else {
         return there.offset;
@@ -247,11 +266,11 @@ pub(crate) fn found_offset(zone: TimeZone<'_>, asked: Asked, guess: i32) -> Opti
     }
     let mut trail = Trail::at(guess);
     'moves: for _move in 0..MOST_MOVES {
-        let Some(there) = state_at(zone, asked.clock - i64::from(trail.here)) else {
+        let Some(there) = state_at(&zone, asked.clock - i64::from(trail.here)) else {
             return None;
         };
         if there.offset == trail.here {
-            return Some(by_flag(zone, asked, there));
+            return Some(by_flag(&zone, asked, there));
         }
         if trail.is_back(asked.daylight, there.daylight) {
             return Some(trail.here);

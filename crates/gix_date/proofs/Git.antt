@@ -2,3 +2,4 @@
 pub mod ClockCuts
 pub mod ClockParts
 pub mod Fronts
+pub mod UsualClocks

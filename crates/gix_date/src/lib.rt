@@ -32,6 +32,7 @@ pub use parsing::careful::{CarefulOptions, Texts, WithoutOffset, parse_carefully
 pub use parsing::dates::{parse, parse_no_alloc, parse_unusual, parse_with};
 pub use parsing::fast::usual_header_time;
 pub use parsing::headers::{HeaderKind, header_kind, is_canonical_header, parse_header};
+pub use parsing::numbers::{parse_short_digits, parse_ten_digits};
 pub use parsing::raw::RawOffsets;
 pub use parsing::usual::usual_date;
 pub use time::{OffsetInSeconds, SecondsSinceUnixEpoch, Time};

@@ -13,7 +13,7 @@ mod fields;
 mod fronts;
 mod git;
 pub(crate) mod headers;
-mod numbers;
+pub(crate) mod numbers;
 mod offset;
 mod patterns;
 pub(crate) mod raw;

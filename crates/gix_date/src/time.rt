@@ -10,7 +10,7 @@ pub mod format;
 mod named;
 mod patterns;
 
-use crate::clock::{push_ascii, push_hours, push_minutes, usual_header_text};
+use crate::clock::{push_ascii, push_offset, usual_header_text};
 use crate::device::{Sink, put_all};
 use crate::error::Error;
 use arrayvec::ArrayString;
@@ -224,8 +224,6 @@ pub fn any_header_text(time: Time) -> Option<ArrayString<MAX_TEXT_LEN>>
     }
     let mut text = ArrayString::new();
     text.push_str(itoa::Buffer::new().format(time.seconds));
-    text.push(' ');
-    push_hours(&mut text, time.offset);
-    push_minutes(&mut text, time.offset);
+    push_offset(&mut text, time.offset);
     Some(text)
 }

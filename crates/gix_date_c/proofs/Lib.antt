@@ -5,6 +5,7 @@ mod Modes
 mod Instants
 mod Named
 mod Pieces
+mod Placed
 mod Printed
 mod Rows
 mod Shown

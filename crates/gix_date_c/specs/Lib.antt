@@ -42,7 +42,8 @@ unfoldable pub use Lines.Readers.{IsLineRead}
 unfoldable pub use Moments.{Place, nanos_in, is_part, has_instant, nanos_of, placed, place_of, IsPlaced, IsNow, offset_at}
 unfoldable pub use Moments.{IsOffsetZone, IsSaid, IsSaidByText, IsTextZone, IsZoneWithoutFile, table_status, IsTable, IsTableZone}
 unfoldable pub use Moments.{IsFileZone}
-unfoldable pub use Parsing.{raw_rule, refusal_status, IsTextParsed, IsParsedIf, IsParsedWithRule, IsParsed, IsParsedAt, IsParsedIn}
+unfoldable pub use Parsing.{raw_rule, refusal_status, IsTextParsed, IsParsedIf, IsParsedWithRule, IsParsed, IsParsedAt}
+unfoldable pub use Parsing.{IsMomentFor, IsParsedThere, IsParsedIfPlaced, IsParsedIn}
 unfoldable pub use Printing.{IsFormat, print_status, printed_text, IsPrinted, PrintsSo, PrintsPatternSo, IsFormatted}
 unfoldable pub use Printing.{IsPatternPrinted}
 unfoldable pub use Reading.{IfText, IsReadAt, IsReadIn, IsReadPlaced}

@@ -1,5 +1,5 @@
 -- Dates, as they are parsed for C.
-use Rattle.std.specs.Prelude.{◌≡◌, ℕ, ◌==◌, if◌then◌else◌, Bool, true, false, List, Option, Some, None, Result, Ok, Err}
+use Rattle.std.specs.Prelude.{◌≡◌, ◌≢◌, ℕ, ◌==◌, if◌then◌else◌, Bool, true, false, List, Option, Some, None, Result, Ok, Err}
 use Rattle.std.specs.Result.{result_map_both}
 use Rattle.std.specs.Str.{is_utf8}
 use Rattle.jiff.specs.Types.{TimeZone}
@@ -11,7 +11,7 @@ use Rattle.gix_date.specs.declared.error.ParseError.TheVariants as refusals
 use Rattle.gix_date.specs.declared.parsing.raw.RawOffsets.{RawOffsets}
 use Rattle.gix_date.specs.declared.parsing.raw.RawOffsets.TheVariants.{Quarter, WholeMinutes}
 use Rattle.gix_date.specs.declared.time.Time.{Time}
-use Rattle.gix_date_c.specs.Moments.{IsNow}
+use Rattle.gix_date_c.specs.Moments.{IsPlaced, Place, place_of}
 use Rattle.gix_date_c.specs.declared.moment.CInstant.{CInstant}
 use Rattle.gix_date_c.specs.declared.values.status.Status.{Status}
 use Rattle.gix_date_c.specs.declared.values.status.Status.TheVariants as statuses
@@ -52,7 +52,22 @@ abbrev pub IsParsedAt : ℕ → Result Zoned Status → List ℕ → Result Time
 IsParsedAt raw_offsets (Ok now) text answer = IsParsed raw_offsets (Some now) text answer
 IsParsedAt raw_offsets (Err status) text answer = answer ≡ Err status
 
+-- the moment of a place, or none where an answer does not miss it
+abbrev pub IsMomentFor : Place → Result Time Status → Option Zoned → Type 0
+IsMomentFor place answer (Some now) = place_of (Ok now) ≡ Ok place
+IsMomentFor place answer None = answer ≢ Err statuses.MissingNow
+
+-- what parsing comes to at a place
+abbrev pub IsParsedThere : ℕ → Place → List ℕ → Result Time Status → Type 0
+IsParsedThere raw_offsets place text answer =
+    (now : Option Zoned) × IsMomentFor place answer now × IsParsed raw_offsets now text answer
+
+-- the same, or where there is no place for this reason
+abbrev pub IsParsedIfPlaced : ℕ → Result Place Status → List ℕ → Result Time Status → Type 0
+IsParsedIfPlaced raw_offsets (Ok place) text answer = IsParsedThere raw_offsets place text answer
+IsParsedIfPlaced raw_offsets (Err status) text answer = answer ≡ Err status
+
 -- what parsing comes to at an instant in a zone of which this is known
 abbrev pub IsParsedIn : ℕ → (Result TimeZone Status → Type 0) → CInstant → List ℕ → Result Time Status → Type 0
 IsParsedIn raw_offsets IsZone instant text answer =
-    (now : Result Zoned Status) × IsNow IsZone instant now × IsParsedAt raw_offsets now text answer
+    (place : Result Place Status) × IsPlaced IsZone instant place × IsParsedIfPlaced raw_offsets place text answer

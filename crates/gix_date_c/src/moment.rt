@@ -1,5 +1,5 @@
 //! Moments: instants in zones.
-ghost use Rattle.std.specs.Prelude.{◌≡◌, Ok};
+ghost use Rattle.std.specs.Prelude.{◌≡◌, true, Ok, IsTrue};
 ghost use Rattle.std.specs.Result.{result_map_both};
 ghost use Rattle.jiff.specs.Words.{plain_zone};
 ghost use Rattle.gix_date_c.specs as Spec;
@@ -8,6 +8,7 @@ use crate::values::status::Status;
 use crate::values::text::utf8_text;
 use git_date::{TableError, zone_of_text, zone_table};
 use gix_date::Zoned;
+use gix_date::time::{FIRST_SECOND, LAST_SECOND};
 use jiff::Timestamp;
 use jiff::tz::{Offset, TimeZone, Tzif};
 use std::alloc::Global;
@@ -41,6 +42,17 @@ pub(crate) fn timestamp_of(instant: &CInstant) -> Result<Timestamp, Status>
         Ok(now) => Ok(now),
         Err(_) => Err(Status::InvalidInstant),
     }
+}
+
+/// Whether an instant is one of `jiff`, told without its nanoseconds since 1970. `false` says nothing.
+#[inline(always)]
+pub(crate) fn is_usual_instant(instant: &CInstant) -> bool
+    ensures { IsTrue result → Spec.has_instant instant.now ≡ true }
+{
+    FIRST_SECOND <= instant.seconds
+        && instant.seconds <= LAST_SECOND
+        && 0 <= instant.nanoseconds
+        && instant.nanoseconds < 1_000_000_000
 }
 
 /// The zone that always has an offset.

@@ -30,6 +30,7 @@ use Rattle.gix_signature.specs.Ident.Laws.{PassesAs, WrittenPasses, CanonicalPas
 use Rattle.gix_signature.specs.declared.error.IdentFault.TheVariants.{NulInPart, EmptyName, OnlyCrud, BeforeEpoch, OffsetTooWide}
 use Rattle.gix_signature.proofs.Cuts.{ArePlain, plain}
 use Rattle.gix_signature.proofs.Idents.Shown.{end-more, end-stays}
+use Rattle.gix_signature.proofs.Texts.{none_is}
 use Rattle.gix_signature.proofs.Written.{text-is}
 use Rattle.gix_signature.proofs.Idents.Passing.{passes-as}
 
@@ -56,18 +57,11 @@ cleaned-ends part = from-end EndsKept (λ xs c h. ends-by xs c (is_crud c) refl 
 abbrev not_nul : ℕ → Bool
 not_nul c = not (is_nul c)
 
-left-none : (a b : Bool) → (a || b) ≡ false → (not a ≡ true) × (b ≡ false)
-left-none true b h = absurd cc
-left-none false b h = (refl, h)
-
 none-nul : (xs : List ℕ) → list_any is_nul xs ≡ false → list_all not_nul xs ≡ true
-none-nul [] h = refl
-none-nul (x ∷ xs) h = let each = left-none (is_nul x) (list_any is_nul xs) h in
-    and_from (not_nul x) (list_all not_nul xs) each.0 (none-nul xs each.1)
+none-nul xs h = none_is is_nul xs ∙ ap not h
 
 not-both : (a b : Bool) → not a ≡ true → not b ≡ true → not (a || b) ≡ true
-not-both true b h k = h
-not-both false b h k = k
+not-both a b h k = grind arith
 
 kept-by : (x : ℕ) (xs : List ℕ) (b : Bool) → is_kept x ≡ b → not_nul x ≡ true → is_part xs ≡ true → is_part (cond b (x ∷ xs) xs) ≡ true
 kept-by x xs true e h k = and_from (is_allowed x) (is_part xs) (not-both (is_bracket x || is_newline x) (is_nul x) e h) k

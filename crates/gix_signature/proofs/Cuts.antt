@@ -1,6 +1,6 @@
 -- A line has one cut at most.
 use Rattle.std.proofs.Common.{arith}
-use Rattle.std.proofs.Common.{◌≡◌, ◌∙◌, ℕ, Bool, true, false, not, ◌||◌, ◌==◌, List, [], ◌∷◌, ◌++◌, drop, get_or, refl, ap, sym}
+use Rattle.std.proofs.Common.{◌≡◌, ◌∙◌, ℕ, Bool, true, false, not, ◌==◌, List, [], ◌∷◌, ◌++◌, drop, get_or, refl, ap, sym}
 use Rattle.std.proofs.Common.{append_assoc, ◌+◌, ◌<◌, take, length, length-append, subst}
 use Rattle.std.proofs.lemmas.Grind.{common_steps}
 use Rattle.std.proofs.lemmas.Str.{IsCharBoundary-after_ascii, IsCharBoundary-at_seam}
@@ -14,7 +14,7 @@ use Rattle.std.proofs.lemmas.List.Folds.{list_all-append}
 use Rattle.std.specs.List.{list_all}
 use Rattle.std.specs.Prelude.{codes}
 use Rattle.gix_date.proofs.Text.AsciiCuts.{all-append}
-use Rattle.gix_signature.specs.Signature.{Parts, IsCut, is_allowed, is_part, are_parts, line_of, opening, closing, newline, nul}
+use Rattle.gix_signature.specs.Signature.{Parts, IsCut, is_allowed, is_part, are_parts, line_of, opening, closing}
 
 -- what passes one test passes another
 pub all-of : (p q : ℕ → Bool) → ((c : ℕ) → p c ≡ true → q c ≡ true) → (xs : List ℕ) → list_all p xs ≡ true → list_all q xs ≡ true
@@ -39,13 +39,9 @@ one-place p c (x ∷ xs) ys (u ∷ us) vs other a b e =
 abbrev pub not_opening : ℕ → Bool
 not_opening c = not (c == opening)
 
-not-or : (a b c d : Bool) → not (a || b || c || d) ≡ true → not a ≡ true
-not-or true b c d h = h
-not-or false b c d h = refl
-
 -- a part holds no `<`
 pub no-opening : (xs : List ℕ) → is_part xs ≡ true → list_all not_opening xs ≡ true
-no-opening = all-of is_allowed not_opening (λ c h. not-or (c == opening) (c == closing) (c == newline) (c == nul) h)
+no-opening = all-of is_allowed not_opening (λ c h. grind (arith, nat_tests, h))
 
 -- what stands after ` <`
 abbrev pub after_name : Parts → List ℕ
@@ -112,8 +108,7 @@ around_ascii text xs ys c small whole utf8 =
 
 -- a part that is empty, or holds a byte that may stand in none, is no line's time
 no-true : (b : Bool) → b ≡ true → b ≡ false → ⊥
-no-true true h k = absurd cc
-no-true false h k = absurd cc
+no-true b h k = grind arith
 
 pub bad_time : (time : List ℕ) (q : Parts) → time ≡ q.time → are_parts q ≡ true → is_part time ≡ false → ⊥
 bad_time time q same are bad = no-true (is_part q.time) (plain q are).time (ap is_part (sym same) ∙ bad)

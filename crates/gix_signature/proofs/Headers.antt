@@ -16,8 +16,7 @@ use Rattle.gix_signature.specs.declared.object.Role.{Role}
 use Rattle.gix_signature.proofs.Texts.{after_place, place_within}
 
 filled : (line : List ℕ) (b : Bool) → (length line == 0) ≡ b → is_filled line ≡ cond b false true
-filled line true h = grind (arith, nat_tests, h)
-filled line false h = grind (arith, nat_tests, h)
+filled line b h = grind (arith, nat_tests, h)
 
 -- the first of a header's lines
 front-by : (line : List ℕ) (lines : List (List ℕ)) (b : Bool) → (length line == 0) ≡ b
@@ -28,8 +27,7 @@ front-by line lines false h = take_while-cons is_filled line lines
     ∙ ap (λ t. cond t (line ∷ take_while is_filled lines) []) (filled line false h)
 
 left-parts : (a b : Bool) → (a || b) ≡ false → (a ≡ false) × (b ≡ false)
-left-parts true b h = absurd cc
-left-parts false b h = (refl, h)
+left-parts a b h = (grind (arith, h), grind (arith, h))
 
 all-other : (p : ℕ → Bool) (xs : List ℕ) → list_any p xs ≡ false → All (λ x. p x ≡ false) xs
 all-other p [] h = All-nil (λ x. p x ≡ false)

@@ -1,20 +1,24 @@
 -- Texts and their places, and what is kept of them.
-use Rattle.std.proofs.Common.{◌≡◌, ◌∙◌, ℕ, ◌+◌, ◌<◌, suc, Bool, true, false, cond, not, ◌||◌, List, [], ◌∷◌, ◌++◌, length, take, drop, refl}
+use Rattle.std.proofs.Common.{◌≡◌, ◌∙◌, ℕ, ◌+◌, ◌<◌, suc, Bool, true, false, cond, not, ◌==◌, List, [], ◌∷◌, ◌++◌, length, take, drop, refl}
 use Rattle.std.proofs.Common.{ap, sym, arith}
 use Rattle.std.proofs.lemmas.List.{drop-drop}
 use Rattle.std.proofs.lemmas.Bool.Decides.{nat_tests}
-use Rattle.std.specs.List.{list_any, prefix_len, position_or_len, filter}
+use Rattle.std.specs.List.{list_all, list_any, prefix_len, position_or_len, filter}
 use Rattle.std.specs.Prelude.{nat_lt}
-
--- one element more at the front
-place-step : (b : Bool) (n m : ℕ) (r : Bool) → nat_lt n m ≡ r → nat_lt (cond (not b) (1 + n) 0) (suc m) ≡ (b || r)
-place-step true n m r h = grind (arith, nat_tests)
-place-step false n m r h = grind (arith, nat_tests, h)
 
 -- a place within the text tells whether there is such a byte
 pub place_within : (p : ℕ → Bool) (xs : List ℕ) → nat_lt (position_or_len p xs) (length xs) ≡ list_any p xs
 place_within p [] = refl
-place_within p (x ∷ xs) = place-step (p x) (position_or_len p xs) (length xs) (list_any p xs) (place_within p xs)
+place_within p (x ∷ xs) = let rest = place_within p xs in grind (arith, nat_tests, rest)
+
+-- all bytes pass where the run at the front is the whole
+pub passed : (p : ℕ → Bool) (xs : List ℕ) → (prefix_len p xs == length xs) ≡ list_all p xs
+passed p [] = refl
+passed p (x ∷ xs) = let rest = passed p xs in grind (arith, nat_tests, rest)
+
+pub none_is : (p : ℕ → Bool) (xs : List ℕ) → list_all (λ c. not (p c)) xs ≡ not (list_any p xs)
+none_is p [] = refl
+none_is p (x ∷ xs) = let rest = none_is p xs in grind (arith, rest)
 
 pub none_there : (p : ℕ → Bool) (xs : List ℕ) → position_or_len p xs ≡ length xs → list_any p xs ≡ false
 none_there p xs e = sym (place_within p xs) ∙ grind (arith, nat_tests, e)

@@ -17,8 +17,7 @@ use Rattle.gix_signature.specs.Ident.Times.{hours_written, minutes_written, digi
 use Rattle.gix_signature.proofs.DateTexts.{AreDecimal, are-decimal, pair-digits, digit-value}
 
 chosen : (b : Bool) (n k : ℕ) → 2 ≤ k → length (decimal n) ≤ k → length (if b then two_digits n else decimal n) ≤ k
-chosen true n k h d = h
-chosen false n k h d = d
+chosen b n k h d = grind (arith, h, d)
 
 pub digits_short : (n k : ℕ) → 2 ≤ k → n < 10 ^ k → n < 2 ^ 64 → length (digits_from_two n) ≤ k
 digits_short n k h small fits = chosen (nat_lt n 100) n k h (length-decimal-le k n (omega (arith, h)) small fits)

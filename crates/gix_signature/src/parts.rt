@@ -1,14 +1,15 @@
 //! Parts of lines, in which no bracket, newline or NUL stands, and how a line is cut at them.
-ghost use Rattle.std.specs.Prelude.{◌≡◌, ◌≢◌, ◌≤◌, ◌∷◌, ◌++◌, ◌==◌, [], ℕ, List, true, false, length, take, MatchOption};
-ghost use Rattle.std.specs.List.{position_or_len, prefix_len};
+ghost use Rattle.std.specs.Prelude.{◌≡◌, ◌≢◌, ◌≤◌, ◌+◌, ◌∷◌, ◌++◌, ◌==◌, [], if◌then◌else◌, ℕ, List, true, false, length, drop};
+ghost use Rattle.std.specs.Prelude.{MatchOption};
+ghost use Rattle.std.specs.List.{prefix_len};
 ghost use Rattle.gix_signature.specs as Spec;
 ghost use Rattle.gix_date.specs as GixDate;
 
 use crate::ident::written::after;
 use std::simd::prelude::*;
 
-/// How many bytes a block has in which a part's end is looked for at once.
-const NEAR: usize = 32;
+/// How many bytes a block has in which a part's end is looked for at once: a usual time is as long.
+const BLOCK: usize = 16;
 
 /// Whether a text may be a part of a line.
 pub(crate) fn is_part(text: &[u8]) -> bool
@@ -45,33 +46,45 @@ pub(crate) fn before_last_space(text: &[u8]) -> Option<&[u8]>
     if *last == b' ' { Some(name) } else { None }
 }
 
-/// How many bytes a text begins with that may stand in a part. Most parts end within one block.
-#[tactic(auto, using(crate::proofs::Idents::Near::part_near))]
+/// How many bytes a text begins with that may stand in a part.
 fn part_len(text: &[u8]) -> usize
     ensures value { result ≡ prefix_len Spec.is_allowed text.now }
     ensures within { result ≤ length text.now }
 {
-    if text.len() >= NEAR {
-        let bracket = near_place(text, b'<').min(near_place(text, b'>'));
-        let end = near_place(text, b'\n').min(near_place(text, b'\0'));
-        let len = bracket.min(end);
-        if len < NEAR {
+    let mut len = 0;
+    let mut rest = text;
+    while rest.len() >= BLOCK {
+        let near = near_len(rest);
+        len += near;
+        if near < BLOCK {
             return len;
         }
+        rest = rest.split_at(BLOCK).1;
     }
+    len + short_len(rest)
+}
+
+/// The same, byte by byte.
+fn short_len(text: &[u8]) -> usize
+    ensures value { result ≡ prefix_len Spec.is_allowed text.now }
+    ensures within { result ≤ length text.now }
+{
     text.iter().take_while(|b| is_allowed(**b)).count()
 }
 
-/// The place of a byte in the first block of a text, or the block's length.
+/// How many bytes of the first block stand before one that may stand in no part.
 #[inline(always)]
-fn near_place(text: &[u8], byte: u8) -> usize
-    requires { NEAR ≤ length text.now }
-    ensures { result ≡ position_or_len (λ c. c == byte) (take NEAR text.now) }
+fn near_len(text: &[u8]) -> usize
+    requires { BLOCK ≤ length text.now }
+    ensures { (prefix_len Spec.is_allowed text.now
+        ≡ result + (if result == BLOCK then prefix_len Spec.is_allowed (drop BLOCK text.now) else 0)) × (result ≤ BLOCK) }
 {
-    let block = u8x32::from_slice(text);
-    let places = block.simd_eq(u8x32::splat(byte)).to_bitmask();
+    let block = u8x16::from_slice(text);
+    let brackets = block.simd_eq(u8x16::splat(b'<')) | block.simd_eq(u8x16::splat(b'>'));
+    let ends = brackets | block.simd_eq(u8x16::splat(b'\n')) | block.simd_eq(u8x16::splat(b'\0'));
+    let places = ends.to_bitmask();
     if places == 0 {
-        return NEAR;
+        return BLOCK;
     }
     places.trailing_zeros() as usize
 }

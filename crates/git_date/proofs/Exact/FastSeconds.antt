@@ -2,9 +2,11 @@
 use Rattle.std.proofs.Common.{◌≡◌, ◌∙◌, ◌≤◌, ◌<◌, ◌+◌, ◌-◌, ◌*◌, ◌/◌, ◌%◌, ℕ, ℤ, pos, neg_ℤ, nat_le, Bool, true, false, cond, List, [], ◌∷◌}
 use Rattle.std.proofs.Common.{◌++◌, length, take, drop, get_or, Option, Some, None, Ok, refl, ap, sym, subst, arith, append-nil, suc}
 use Rattle.std.specs.Char.{is_ascii_digit}
-use Rattle.std.specs.List.{fold, list_all}
-use Rattle.std.specs.Prelude.{nat_lt}
-use Rattle.std.proofs.lemmas.Bool.{and_from as join, and_parts}
+use Rattle.std.specs.List.{list_all}
+use Rattle.std.specs.Prelude.{nat_lt, ◌^◌}
+use Rattle.std.specs.Str.{all_ascii_digits}
+use Rattle.std.specs.Str.Parse.{digits_value}
+use Rattle.std.proofs.lemmas.Bool.{and_parts}
 use Rattle.std.proofs.lemmas.List.{take_all}
 use Rattle.std.proofs.lemmas.Bool.Decides.{nat_tests}
 use Rattle.jiff_core.proofs.SignedLemmas.{signed_arith}
@@ -20,9 +22,9 @@ use Rattle.gix_date.specs.Text.Numbers.{two_digits}
 use Rattle.git_date.specs.Rules.Clocks.{utc_clock}
 use Rattle.git_date.specs.Rules.Dates.{exact_seconds, month_start, first_of_year_2100}
 use Rattle.git_date.specs.Rules.Digits.{digits_rule, min_epoch, with_epoch}
-use Rattle.git_date.specs.Exact.Fast.{IsGitDate, WritesTwo, WritesClock, WritesOffset, WritesSeconds, WritesRaw, Says, said_alone}
+use Rattle.git_date.specs.Exact.Fast.{IsGitDate, WritesClock, WritesOffset, WritesSeconds, WritesRaw, Says, said_alone}
 use Rattle.git_date.specs.Rules.Fields.{unknown}
-use Rattle.git_date.specs.Tokens.Numbers.{digit_more, number}
+use Rattle.git_date.specs.Tokens.Numbers.{number}
 use Rattle.git_date.specs.Rules.Offsets.{at_text, padded_number, white, without_white}
 use Rattle.git_date.specs.Exact.Reading.{ended, step, steps, at_said, by_seconds, fields_said, string_said, at_or_fields}
 use Rattle.git_date.specs.Tokens.Tokens.{Token, Digits, Mark, tokens}
@@ -35,63 +37,16 @@ use Rattle.git_date.proofs.Exact.FastTexts.{t, git-clock, minutes-are}
 use Rattle.git_date.proofs.Exact.PrintedClocks.{IsGitClock, pairs-number, run-before, at, go, skip-space, go-offset, offset_tokens}
 use Rattle.git_date.proofs.Exact.PrintedClocks.{spaced-offset, offset_in_minutes, hours_of, is_behind, minutes_of as minutes_in}
 use Rattle.git_date.proofs.Exact.PrintedReads.{reads-are, sign-free}
+use Rattle.git_date.proofs.Rules.Saturated.{number-is}
 use Rattle.git_date.proofs.Text.StringEnds.{has_nul, no-nul, whole-said}
 use Rattle.git_date.proofs.Text.TokenRuns.{mark-first}
 use Rattle.git_date.proofs.Text.Walked.{nothing-left}
 
--- two digits more
-pair-read : (v n tens ones : ℕ) (rest : List ℕ) → n ≤ 99 → two_digits n ≡ tens ∷ ones ∷ []
-    → fold digit_more v (tens ∷ ones ∷ rest) ≡ fold digit_more (100 * v + n) rest
-pair-read v n tens ones rest h e =
-    let first : 48 + n / 10 ≡ tens = ap (λ (digits : List ℕ). get_or digits 0 0) e in
-    let second : 48 + n % 10 ≡ ones = ap (λ (digits : List ℕ). get_or digits 1 0) e in
-    let both : digit_more (digit_more v tens) ones ≡ 100 * v + n = omega (arith, first, second) in
-    ap (λ (value : ℕ). fold digit_more value rest) both
-
-pair-digits : (n tens ones : ℕ) (rest : List ℕ) → n ≤ 99 → two_digits n ≡ tens ∷ ones ∷ [] → list_all is_ascii_digit rest ≡ true
-    → list_all is_ascii_digit (tens ∷ ones ∷ rest) ≡ true
-pair-digits n tens ones rest h e more =
-    let first : 48 + n / 10 ≡ tens = ap (λ (digits : List ℕ). get_or digits 0 0) e in
-    let second : 48 + n % 10 ≡ ones = ap (λ (digits : List ℕ). get_or digits 1 0) e in
-    let a : is_ascii_digit tens ≡ true = grind (arith, nat_tests) in
-    let b : is_ascii_digit ones ≡ true = grind (arith, nat_tests) in
-    join _ _ a (join _ _ b more)
-
-ten-digits : (text : List ℕ) (p q r s u : ℕ) → 10 ≤ length text → length text < 11 → WritesTwo 10 40 (get_or text 0 0) (get_or text 1 0) p
-    → WritesTwo 0 99 (get_or text 2 0) (get_or text 3 0) q → WritesTwo 0 99 (get_or text 4 0) (get_or text 5 0) r
-    → WritesTwo 0 99 (get_or text 6 0) (get_or text 7 0) s
-    → WritesTwo 0 99 (get_or text 8 0) (get_or text 9 0) u → WritesSeconds text (100 * (100 * (100 * (100 * p + q) + r) + s) + u)
-unfolding number
-ten-digits (a ∷ b ∷ c ∷ d ∷ e ∷ f ∷ g ∷ h ∷ i ∷ j ∷ []) p q r s u low high v w x y z =
-    let least = v.least in
-    let most = v.most in
-    let most_q = w.most in
-    let most_r = x.most in
-    let most_s = y.most in
-    let most_u = z.most in
-    let first : p ≤ 99 = omega (arith, most) in
-    record {
-      first = omega (arith, least);
-      last = omega (arith, most, most_q, most_r, most_s, most_u);
-      digits = pair-digits p a b (c ∷ d ∷ e ∷ f ∷ g ∷ h ∷ i ∷ j ∷ []) first v.is (pair-digits q c d (e ∷ f ∷ g ∷ h ∷ i ∷ j ∷ []) w.most w.is
-          (pair-digits r e f (g ∷ h ∷ i ∷ j ∷ []) x.most x.is
-          (pair-digits s g h (i ∷ j ∷ []) y.most y.is (pair-digits u i j [] z.most z.is refl))));
-      is =
-          let folded =
-          pair-read 0 p a b (c ∷ d ∷ e ∷ f ∷ g ∷ h ∷ i ∷ j ∷ []) first v.is
-          ∙ pair-read (100 * 0 + p) q c d (e ∷ f ∷ g ∷ h ∷ i ∷ j ∷ []) w.most w.is
-          ∙ pair-read _ r e f (g ∷ h ∷ i ∷ j ∷ []) x.most x.is ∙ pair-read _ s g h (i ∷ j ∷ []) y.most y.is
-          ∙ pair-read _ u i j [] z.most z.is in
-          omega (arith, folded, most, most_q, most_r, most_s, most_u);
-    }
-ten-digits text p q r s u low high v w x y z = absurd (omega (arith, low, high))
-
-pub ten_digits : (text : List ℕ) (p q r s u n : ℕ) → 10 ≤ length text → length text < 11
-    → WritesTwo 10 40 (get_or text 0 0) (get_or text 1 0) p
-    → WritesTwo 0 99 (get_or text 2 0) (get_or text 3 0) q → WritesTwo 0 99 (get_or text 4 0) (get_or text 5 0) r
-    → WritesTwo 0 99 (get_or text 6 0) (get_or text 7 0) s
-    → WritesTwo 0 99 (get_or text 8 0) (get_or text 9 0) u → n ≡ 100 * (100 * (100 * (100 * p + q) + r) + s) + u → WritesSeconds text n
-ten_digits text p q r s u n low high v w x y z is = subst (WritesSeconds text) (sym is) (ten-digits text p q r s u low high v w x y z)
+-- ten digits, by the value that std reads of them
+pub ten_digits : (text : List ℕ) (n : ℕ) → all_ascii_digits text ≡ true → n ≡ digits_value 10 text → n < 10 ^ 18 → min_epoch ≤ n
+    → n < first_of_year_2100 → WritesSeconds text n
+ten_digits text n digits value small first last =
+    record { first = first; last = last; digits = digits; is = number-is text digits (omega (arith, value, small)) ∙ sym value }
 
 -- `@`
 abbrev pub sign_byte : Bool → ℕ

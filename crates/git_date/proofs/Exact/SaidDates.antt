@@ -1,7 +1,7 @@
 -- What a text says whatever the moment, as a date whatever the zone.
 use Rattle.std.proofs.Common.{◌≡◌, ◌∙◌, ℤ, List, ℕ, IfSome, Some, None, Result, Ok, sym, ap, subst}
 use Rattle.jiff.specs.Types.{TimeZone}
-use Rattle.git_date.specs.Exact.Fast.{Says, SaysDate, SaysFields, SaysIn, said_alone}
+use Rattle.git_date.specs.Exact.Fast.{Says, SaysDate, SaysFields, Tells, said_alone}
 use Rattle.git_date.specs.Exact.Reading.{said_by, fields_said}
 use Rattle.git_date.specs.declared.fields.Fields.{Fields}
 use Rattle.git_date.specs.Exact.Outcome.{HasPlacesIn, IsPlaceIn, at_offset, date_at, date_of}
@@ -21,19 +21,16 @@ said_is_date text said minutes date answer says offset is e = λ now tz.
 pub said_places : (now : Now) (tz : TimeZone) (text : List ℕ) (date : ExactDate) → SaysDate text date → IfSome date.ignored (IsPlaceIn text)
 said_places now tz text date h = subst (HasPlacesIn text) (h now tz) (places tz now text)
 
--- by the zone's offset
-pub seconds_in : (tz : TimeZone) (text : List ℕ) (n : ℕ) (answer : Result ExactDate DateError) → Says text (said_alone n)
-    → answer ≡ date_of tz (Ok (said_alone n)) → SaysIn tz text answer
-unfolding SaysIn
-seconds_in tz text n answer says is now = ap (date_of tz) (says now) ∙ sym is
+-- without an offset
+pub seconds_tell : (text : List ℕ) (n : ℕ) → Says text (said_alone n) → Tells text (Ok (said_alone n))
+unfolding Tells
+seconds_tell text n says = says
 
-pub fields_in_zone : (tz : TimeZone) (text : List ℕ) (f : Fields) (said : Result Said DateError) (answer : Result ExactDate DateError)
-    → SaysFields text f → said ≡ fields_said text (Ok (record { fields = f; ignored = None })) → answer ≡ date_of tz said
-    → SaysIn tz text answer
-unfolding SaysIn
-fields_in_zone tz text f said answer says made is now = ap (date_of tz) (says now ∙ sym made) ∙ sym is
+pub fields_tell : (text : List ℕ) (f : Fields) (said : Result Said DateError) → SaysFields text f
+    → said ≡ fields_said text (Ok (record { fields = f; ignored = None })) → Tells text said
+unfolding Tells
+fields_tell text f said says made now = says now ∙ sym made
 
-pub told_by : (tz : TimeZone) (text : List ℕ) (now : Now) (answer : Result ExactDate DateError) → SaysIn tz text answer
-    → answer ≡ date_of tz (said_by now text)
-unfolding SaysIn
-told_by tz text now answer says = sym (says now)
+pub told : (text : List ℕ) (now : Now) (said : Result Said DateError) → Tells text said → said_by now text ≡ said
+unfolding Tells
+told text now said tells = tells now

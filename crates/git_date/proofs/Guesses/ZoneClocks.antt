@@ -1,9 +1,7 @@
 -- What a zone's clock shows at an instant, and at which instant a clock is found.
-use Rattle.std.proofs.Common.{◌≡◌, ◌∙◌, ◌+ℤ◌, ◌-ℤ◌, ◌^◌, ℕ, ℤ, pos, neg_ℤ, Bool, true, false, cond, Option, Some, None, Result, FitsSigned}
-use Rattle.std.proofs.Common.{w32, option_map, option_and_then, refl, ap, arith}
+use Rattle.std.proofs.Common.{◌≡◌, ◌∙◌, ◌+ℤ◌, ◌-ℤ◌, ◌^◌, ℕ, ℤ, pos, neg_ℤ, Bool, true, false, Option, Some, Result, FitsSigned}
+use Rattle.std.proofs.Common.{w32, option_map, option_and_then, ap, arith}
 use Rattle.std.specs.Prelude.{ok_or}
-use Rattle.jiff.specs.Types.{TimeZone}
-use Rattle.jiff.specs.Words.{nanos_of_seconds}
 use Rattle.jiff_core.proofs.SignedLemmas.{signed_arith}
 use Rattle.jiff_core.specs.Calendar.{IsBetween}
 use Rattle.gix_date.proofs.Fields.Instants.{instant_holds}
@@ -11,7 +9,7 @@ use Rattle.gix_date.specs.Fields.Layout.{LocalTime}
 use Rattle.gix_date.specs.Fields.Zoned.{is_instant}
 use Rattle.git_date.specs.Approximate.Clocks.{clock_shown_at}
 use Rattle.git_date.specs.Approximate.Zones.{clock_at, shown_in, found_by, found_at, filled_instant, moved_to, before, fill}
-use Rattle.git_date.specs.Exact.Zones.{States, states_of, state_there, before_leap, found_offset}
+use Rattle.git_date.specs.Exact.Zones.{States, before_leap, found_offset}
 use Rattle.git_date.specs.Tokens.Steps.{and_then}
 use Rattle.git_date.specs.declared.approximate.drafts.Draft.{Draft}
 use Rattle.git_date.specs.declared.approximate.drafts.LastShown.{LastShown}
@@ -19,14 +17,6 @@ use Rattle.git_date.specs.declared.approximate.zone.Found.{Found}
 use Rattle.git_date.specs.declared.error.Fault.{Fault}
 use Rattle.git_date.specs.declared.error.Fault.TheVariants.{Range}
 use Rattle.git_date.specs.declared.zones.ZoneState.{ZoneState}
-
--- a zone says something of instants alone
-pub is-instant-of : (tz : TimeZone) (s : ℤ) (there : ZoneState) → Some there ≡ states_of tz s → is_instant s ≡ true
-is-instant-of tz s there h = by (is_instant s) h
-  where
-    by : (b : Bool) → Some there ≡ cond b (Some (state_there tz (nanos_of_seconds s))) None → b ≡ true
-    by true h = refl
-    by false h = absurd cc
 
 -- what the zone's clock shows
 pub shown-there : (zone : States) (instant : ℤ) (there : ZoneState) (shown : Option LocalTime) → Some there ≡ zone instant

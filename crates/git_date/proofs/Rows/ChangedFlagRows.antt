@@ -22,7 +22,7 @@ ahead seconds =
 
 -- that day at 14:00
 abbrev change_now : Now
-change_now = record { seconds = pos 1_249_041_600; year = 2009 }
+change_now = record { seconds = pos 1_249_041_600 }
 
 abbrev time_of : Result Approximate DateError → Option Time
 time_of (Ok date) = Some date.time

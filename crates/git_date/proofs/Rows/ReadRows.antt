@@ -135,7 +135,7 @@ unfolding computing
 toward_zero = refl
 
 -- ten days after another moment, to the second
-ten_days_after : map (λ text. in_utc (said_by (record { seconds = pos 1250191200; year = 2009 }) (codes text)))
+ten_days_after : map (λ text. in_utc (said_by (record { seconds = pos 1250191200 }) (codes text)))
     ("19:20:00 8/23/2009 +0000" ∷ "19:20:01 8/23/2009 +0000" ∷ [])
     ≡ Ok (at 1251055200 (pos 0)) ∷ Err Unreadable ∷ []
 unfolding computing

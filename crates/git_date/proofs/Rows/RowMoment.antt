@@ -3,4 +3,4 @@ use Rattle.std.proofs.Common.{pos}
 use Rattle.git_date.specs.declared.fields.dates.Now.{Now}
 
 abbrev pub row_now : Now
-row_now = record { seconds = pos 1_251_660_000; year = 2009 }
+row_now = record { seconds = pos 1_251_660_000 }

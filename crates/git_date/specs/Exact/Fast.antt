@@ -227,9 +227,9 @@ Says text said = (now : Now) → said_by now text ≡ Ok said
 abbrev pub SaysDate : List ℕ → ExactDate → Type 0
 SaysDate text date = (now : Now) (tz : TimeZone) → date_of tz (said_by now text) ≡ Ok date
 
--- a text comes to this in a zone, whatever the moment
-unfoldable pub SaysIn : TimeZone → List ℕ → Result ExactDate DateError → Type 0
-SaysIn tz text answer = (now : Now) → date_of tz (said_by now text) ≡ answer
+-- a text says this or is refused so, whatever the moment
+unfoldable pub Tells : List ℕ → Result Said DateError → Type 0
+Tells text said = (now : Now) → said_by now text ≡ said
 
 -- a text has fewer than three digits, and no colon: it says no clock
 abbrev pub has_few_digits : List ℕ → Bool

@@ -84,11 +84,11 @@ exact_seconds f = do
   start ← month_start year month
   Some (seconds_after start f.day hour minute second)
 
--- the seconds and the year in UTC of an instant, which the rules use
+-- the seconds of an instant, which the rules use
 abbrev pub now_at : ℤ → Now
-now_at nanos = record { seconds = whole_seconds nanos; year = utc_year (whole_seconds nanos) }
+now_at nanos = record { seconds = whole_seconds nanos }
 
--- the seconds and the year in UTC of a moment, which the rules use
+-- those of a moment
 abbrev pub now_of : Zoned → Now
 now_of moment = now_at (zoned_nanos moment)
 
@@ -112,7 +112,7 @@ recent_date now f month day (Some third) =
     else None
 recent_date now f month day None =
     if is_day_of_month month day
-    then unless_ahead now (with_date f now.year month day) (Some (record f { month = Some month; day = Some day })) else None
+    then unless_ahead now (with_date f (utc_year now.seconds) month day) (Some (record f { month = Some month; day = Some day })) else None
 
 -- a date that is taken by its year, or whose year is refused
 abbrev pub by_year : Fields → ℕ → ℕ → Option ℕ → Dated

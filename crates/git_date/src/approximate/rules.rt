@@ -1,7 +1,7 @@
 //! The rules of the approximate reader: what digits and words make of a draft.
 ghost use Rattle.std.specs.Prelude.{◌≡◌, ◌≤◌, length, IfOk};
+ghost use Rattle.jiff.specs.Words.{plain_zone};
 ghost use Rattle.git_date.specs as Spec;
-ghost use Rattle.gix_date.specs as GixDate;
 
 use crate::approximate::drafts::{Draft, Drafted, units, weekday_seconds};
 use crate::approximate::meanings::{Meaning, Unit, meaning_of};
@@ -14,9 +14,9 @@ use crate::fields::groups::Number;
 use crate::tokens::numbers::{MAX_SMALL, is_too_large, number};
 use crate::tokens::words::is_filler;
 use crate::tokens::{Token, left_from, next_token};
-use gix_date::Zoned;
 use gix_date::clock::Clock;
 use gix_date::time::SECONDS_PER_DAY;
+use jiff::tz::TimeZone;
 
 /// What a rule makes of a draft: `None` if it did nothing.
 type Ruled = Result<Option<Draft>, Fault>;
@@ -28,12 +28,12 @@ fn used(draft: Drafted) -> Ruled
 }
 
 /// `midnight`, `noon` and `tea`: where the clock is before that hour, the day before. gitrevisions asks for a prior point in time.
-fn hour_rule(moment: Zoned<'_>, today: Clock, draft: Draft, hour: u8, left: usize) -> Drafted
-    ensures { result ≡ Spec.hour_rule (Spec.states_of (GixDate.zone_of moment.entry)) today draft hour left }
+fn hour_rule(zone: &TimeZone<'_>, today: Clock, draft: Draft, hour: u8, left: usize) -> Drafted
+    ensures { result ≡ Spec.hour_rule (Spec.states_of (plain_zone zone.now)) today draft hour left }
 {
     let settled = draft.settle();
     let day = if settled.fields.hour.is_some_and(|shown| shown < hour) {
-        fill(moment, today, settled, SECONDS_PER_DAY as u32, left)?
+        fill(zone, today, settled, SECONDS_PER_DAY as u32, left)?
     } else {
         settled
     };
@@ -41,20 +41,20 @@ fn hour_rule(moment: Zoned<'_>, today: Clock, draft: Draft, hour: u8, left: usiz
 }
 
 /// A number of seconds back. Git keeps them in 32 bits: its `25000 days ago` lies ahead, and is refused here.
-fn back_rule(moment: Zoned<'_>, today: Clock, draft: Draft, back: u64, n: Number) -> Drafted
-    ensures { result ≡ Spec.back_rule (Spec.states_of (GixDate.zone_of moment.entry)) today draft back n }
+fn back_rule(zone: &TimeZone<'_>, today: Clock, draft: Draft, back: u64, n: Number) -> Drafted
+    ensures { result ≡ Spec.back_rule (Spec.states_of (plain_zone zone.now)) today draft back n }
 {
     if MAX_SMALL < back {
         return Err(Fault::BackTooFar(n.left));
     }
-    fill(moment, today, draft, back as u32, n.left)
+    fill(zone, today, draft, back as u32, n.left)
 }
 
 /// A number of months back. To Git a year before 1900 is unknown, so its `200 years ago` is this year, and is refused here.
-fn months_rule(moment: Zoned<'_>, today: Clock, draft: Draft, months: u64, n: Number) -> Drafted
-    ensures { result ≡ Spec.months_rule (Spec.states_of (GixDate.zone_of moment.entry)) today draft months n }
+fn months_rule(zone: &TimeZone<'_>, today: Clock, draft: Draft, months: u64, n: Number) -> Drafted
+    ensures { result ≡ Spec.months_rule (Spec.states_of (plain_zone zone.now)) today draft months n }
 {
-    let filled = fill(moment, today, draft, 0, n.left)?;
+    let filled = fill(zone, today, draft, 0, n.left)?;
     let fields = filled
         .fields
         .less_months(months)
@@ -63,26 +63,26 @@ fn months_rule(moment: Zoned<'_>, today: Clock, draft: Draft, months: u64, n: Nu
 }
 
 /// What a number counts.
-fn unit_rule(moment: Zoned<'_>, today: Clock, draft: Draft, unit: Unit, n: Number) -> Drafted
-    ensures { result ≡ Spec.unit_rule (Spec.states_of (GixDate.zone_of moment.entry)) today draft unit n }
+fn unit_rule(zone: &TimeZone<'_>, today: Clock, draft: Draft, unit: Unit, n: Number) -> Drafted
+    ensures { result ≡ Spec.unit_rule (Spec.states_of (plain_zone zone.now)) today draft unit n }
 {
     let rest = draft.without_number();
     match unit {
-        Unit::Seconds(size) => back_rule(moment, today, rest, units(n.value, size), n),
+        Unit::Seconds(size) => back_rule(zone, today, rest, units(n.value, size), n),
         Unit::Weekday(day) => {
             let back = weekday_seconds(draft.last.weekday, day, n.value);
-            back_rule(moment, today, rest, back, n)
+            back_rule(zone, today, rest, back, n)
         }
-        Unit::Months(size) => months_rule(moment, today, rest, units(n.value, size), n),
+        Unit::Months(size) => months_rule(zone, today, rest, units(n.value, size), n),
     }
 }
 
 /// What the waiting number counts. Without one a unit says nothing, so Git understands no `friday` alone.
-fn counted(moment: Zoned<'_>, today: Clock, draft: Draft, unit: Unit) -> Ruled
-    ensures { result ≡ Spec.counted_by (Spec.states_of (GixDate.zone_of moment.entry)) today draft unit draft.waiting }
+fn counted(zone: &TimeZone<'_>, today: Clock, draft: Draft, unit: Unit) -> Ruled
+    ensures { result ≡ Spec.counted_by (Spec.states_of (plain_zone zone.now)) today draft unit draft.waiting }
 {
     match draft.waiting {
-        Some(n) => used(unit_rule(moment, today, draft, unit, n)),
+        Some(n) => used(unit_rule(zone, today, draft, unit, n)),
         None => Ok(None),
     }
 }
@@ -119,36 +119,36 @@ fn with_month(draft: Draft, month: u8) -> Draft
 /// What a word makes of a draft by what it says.
 #[tactic(auto, unfolding(crate::specs::meaning_rule))]
 fn meaning_rule(
-    moment: Zoned<'_>,
+    zone: &TimeZone<'_>,
     today: Clock,
     draft: Draft,
     left: usize,
     meaning: Meaning,
 ) -> Ruled
-    ensures { result ≡ Spec.meaning_rule (Spec.states_of (GixDate.zone_of moment.entry)) today draft left meaning }
+    ensures { result ≡ Spec.meaning_rule (Spec.states_of (plain_zone zone.now)) today draft left meaning }
 {
     match meaning {
         Meaning::Month(month) => Ok(Some(with_month(draft, month))),
-        Meaning::Back(seconds) => used(fill(moment, today, draft.dropped(), seconds, left)),
+        Meaning::Back(seconds) => used(fill(zone, today, draft.dropped(), seconds, left)),
         // The first instant of 1970, which no search finds.
         Meaning::Never => {
             let guess = draft.last.guess;
-            used(moved_to(moment, draft.dropped(), left, Found { instant: 0, guess }))
+            used(moved_to(zone, draft.dropped(), left, Found { instant: 0, guess }))
         }
-        Meaning::Hour(hour) => used(hour_rule(moment, today, draft, hour, left)),
+        Meaning::Hour(hour) => used(hour_rule(zone, today, draft, hour, left)),
         Meaning::Morning => Ok(Some(draft.half(0))),
         Meaning::Afternoon => Ok(Some(draft.half(12))),
         Meaning::Count(n) => Ok(count_waits(draft, n, left)),
-        Meaning::Unit(unit) => counted(moment, today, draft, unit),
+        Meaning::Unit(unit) => counted(zone, today, draft, unit),
     }
 }
 
 /// What a word makes of a draft.
-fn word_rule(moment: Zoned<'_>, today: Clock, draft: Draft, left: usize, word: &[u8]) -> Ruled
-    ensures { result ≡ Spec.word_by (Spec.states_of (GixDate.zone_of moment.entry)) today draft left (Spec.meaning_of word.now) }
+fn word_rule(zone: &TimeZone<'_>, today: Clock, draft: Draft, left: usize, word: &[u8]) -> Ruled
+    ensures { result ≡ Spec.word_by (Spec.states_of (plain_zone zone.now)) today draft left (Spec.meaning_of word.now) }
 {
     match meaning_of(word) {
-        Some(meaning) => meaning_rule(moment, today, draft, left, meaning),
+        Some(meaning) => meaning_rule(zone, today, draft, left, meaning),
         None => Ok(None),
     }
 }
@@ -170,20 +170,20 @@ fn read_word(draft: Draft, word: &[u8], left: usize, ruled: Ruled) -> Drafted
 /// What letters make of a draft, by the text after them. To Git `jan5` is one word, and no name has a digit.
 #[tactic(auto, unfolding(crate::specs::approximate_letters_rule))]
 pub(crate) fn letters_rule(
-    moment: Zoned<'_>,
+    zone: &TimeZone<'_>,
     today: Clock,
     draft: Draft,
     run: &[u8],
     text: &[u8],
 ) -> Drafted
     ensures { result
-        ≡ Spec.approximate_letters_rule (Spec.states_of (GixDate.zone_of moment.entry)) today draft run.now (Spec.tokens text.now) }
+        ≡ Spec.approximate_letters_rule (Spec.states_of (plain_zone zone.now)) today draft run.now (Spec.tokens text.now) }
 {
     let left = left_from(run, text);
     if matches!(next_token(text), Some((Token::Digits(_), _))) {
         return Ok(draft.ignore(left));
     }
-    read_word(draft, run, left, word_rule(moment, today, draft, left, run))
+    read_word(draft, run, left, word_rule(zone, today, draft, left, run))
 }
 
 /// Whether three digits or more begin with 0. In Git `07` may be a day or a month, and `007` says nothing.

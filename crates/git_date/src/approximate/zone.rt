@@ -1,17 +1,18 @@
 //! What a zone's clock shows, which instants Git finds by it, and how dates are filled in from there.
 ghost use Rattle.std.specs.Prelude.{◌≡◌, ◌^◌, pos, neg_ℤ, IfSome};
 ghost use Rattle.jiff_core.specs.Calendar.{IsBetween};
+ghost use Rattle.jiff.specs.Words.{plain_zone};
 ghost use Rattle.git_date.specs as Spec;
-ghost use Rattle.gix_date.specs as GixDate;
 
 use crate::approximate::drafts::{Draft, Drafted, LastShown};
 use crate::error::Fault;
 use crate::fields::Fields;
 use crate::fields::dates::{first_second, seconds_after};
 use crate::zones::{Asked, before_leap, earlier, found_offset, state_at};
+use gix_date::Time;
 use gix_date::clock::Clock;
 use gix_date::time::LAST_OF_YEAR_9999;
-use gix_date::{Time, Zoned};
+use jiff::tz::TimeZone;
 
 /// The instant at which a clock is read.
 #[derive(Clone, Copy)]
@@ -21,12 +22,12 @@ pub(crate) struct Found {
     pub(crate) guess: i32,
 }
 
-/// What the clock of the moment's zone shows at an instant, with its offset and its flag there. `None` before 1900.
+/// What the zone's clock shows at an instant, with its offset and its flag there. `None` before 1900.
 #[tactic(auto, unfolding(crate::specs::shown_in))]
-pub(crate) fn shown_in(moment: Zoned<'_>, instant: i64) -> Option<ZoneClock>
-    ensures { result ≡ Spec.shown_in (Spec.states_of (GixDate.zone_of moment.entry)) instant }
+pub(crate) fn shown_in(zone: &TimeZone<'_>, instant: i64) -> Option<ZoneClock>
+    ensures { result ≡ Spec.shown_in (Spec.states_of (plain_zone zone.now)) instant }
 {
-    let there = state_at(moment.time_zone(), instant)?;
+    let there = state_at(zone, instant)?;
     let shown = shown_at(instant + i64::from(there.offset))?;
     Some(ZoneClock {
         clock: shown.with_offset(there.offset),
@@ -34,68 +35,74 @@ pub(crate) fn shown_in(moment: Zoned<'_>, instant: i64) -> Option<ZoneClock>
     })
 }
 
-/// The instant at which the clock of the moment's zone has counted so many seconds since 1970-01-01 00:00:00, by the flag of the last
+/// The instant at which the zone's clock has counted so many seconds since 1970-01-01 00:00:00, by the flag of the last
 /// one and from where the last search ended.
 #[tactic(auto, unfolding(crate::specs::found_at))]
-fn found_at(moment: Zoned<'_>, last: LastShown, leap: bool, local: i64) -> Option<Found>
+fn found_at(zone: &TimeZone<'_>, last: LastShown, leap: bool, local: i64) -> Option<Found>
     requires { IsBetween (neg_ℤ (pos (10 ^ 16))) (pos (10 ^ 16)) local }
-    ensures value { result ≡ Spec.found_at (Spec.states_of (GixDate.zone_of moment.entry)) last leap local }
+    ensures value { result ≡ Spec.found_at (Spec.states_of (plain_zone zone.now)) last leap local }
     ensures small { IfSome result (λ found. IsBetween (neg_ℤ (pos (10 ^ 15))) (pos (10 ^ 15)) found.instant) }
 {
     let asked = Asked {
         clock: before_leap(leap, local),
         daylight: Some(last.daylight),
     };
-    let guess = found_offset(moment.time_zone(), asked, last.guess)?;
+    let guess = found_offset(*zone, asked, last.guess)?;
     Some(Found {
         instant: local - i64::from(guess),
         guess,
     })
 }
 
-/// The instant at which the clock of the moment's zone shows these fields.
+/// The instant at which the zone's clock shows these fields.
 #[tactic(auto, unfolding(crate::specs::filled_instant))]
-fn filled(moment: Zoned<'_>, today: Clock, last: LastShown, fields: Fields) -> Option<Found>
-    ensures value { result ≡ Spec.filled_instant (Spec.states_of (GixDate.zone_of moment.entry)) today last fields }
+fn filled(zone: &TimeZone<'_>, today: Clock, last: LastShown, fields: Fields) -> Option<Found>
+    ensures value { result ≡ Spec.filled_instant (Spec.states_of (plain_zone zone.now)) today last fields }
     ensures small { IfSome result (λ found. IsBetween (neg_ℤ (pos (10 ^ 15))) (pos (10 ^ 15)) found.instant) }
 {
     let local = filled_seconds(today, fields)?;
-    found_at(moment, last, fields.is_leap(), local)
+    found_at(zone, last, fields.is_leap(), local)
 }
 
-/// The time at which the clock of the moment's zone shows these fields, or that is found in its place.
+/// The time at which the zone's clock shows these fields, or that is found in its place.
 #[tactic(auto, unfolding(crate::specs::filled_time))]
 pub(crate) fn filled_time(
-    moment: Zoned<'_>,
+    zone: &TimeZone<'_>,
     today: Clock,
     last: LastShown,
     fields: Fields,
 ) -> Option<Time>
-    ensures { result ≡ Spec.filled_time (Spec.states_of (GixDate.zone_of moment.entry)) today last fields }
+    ensures { result ≡ Spec.filled_time (Spec.states_of (plain_zone zone.now)) today last fields }
 {
-    let found = filled(moment, today, last, fields)?;
-    let there = state_at(moment.time_zone(), found.instant)?;
+    let found = filled(zone, today, last, fields)?;
+    let there = state_at(zone, found.instant)?;
     Some(Time::new(found.instant, there.offset))
 }
 
 /// With the zone's clock at an instant.
 #[tactic(auto, unfolding(crate::specs::moved_to))]
-pub(crate) fn moved_to(moment: Zoned<'_>, draft: Draft, left: usize, found: Found) -> Drafted
-    ensures { result ≡ Spec.moved_to (Spec.states_of (GixDate.zone_of moment.entry)) draft left found }
+pub(crate) fn moved_to(zone: &TimeZone<'_>, draft: Draft, left: usize, found: Found) -> Drafted
+    ensures { result ≡ Spec.moved_to (Spec.states_of (plain_zone zone.now)) draft left found }
 {
-    let shown = shown_in(moment, found.instant).ok_or(Fault::BackTooFar(left))?;
+    let shown = shown_in(zone, found.instant).ok_or(Fault::BackTooFar(left))?;
     Ok(draft.with_shown(found.guess, shown))
 }
 
 /// With the zone's clock so many seconds before it shows the fields, where the date is today's as far as it is not said.
 #[tactic(auto, using(gix_date::proofs::Text::Ints::held, crate::proofs::Guesses::ZoneClocks::filled_by), unfolding(crate::specs::fill))]
-pub(crate) fn fill(moment: Zoned<'_>, today: Clock, draft: Draft, back: u32, left: usize) -> Drafted
-    ensures { result ≡ Spec.fill (Spec.states_of (GixDate.zone_of moment.entry)) today draft back left }
+pub(crate) fn fill(
+    zone: &TimeZone<'_>,
+    today: Clock,
+    draft: Draft,
+    back: u32,
+    left: usize,
+) -> Drafted
+    ensures { result ≡ Spec.fill (Spec.states_of (plain_zone zone.now)) today draft back left }
 {
-    match filled(moment, today, draft.last, draft.fields) {
+    match filled(zone, today, draft.last, draft.fields) {
         Some(found) => {
             let instant = earlier(found.instant, i64::from(back));
-            moved_to(moment, draft, left, Found { instant, ..found })
+            moved_to(zone, draft, left, Found { instant, ..found })
         }
         None => Err(Fault::Range),
     }

@@ -15,18 +15,14 @@ use jiff_core::civil::Date;
 pub(crate) struct Now {
     /// Seconds since 1970-01-01 00:00:00 UTC.
     pub(crate) seconds: i64,
-    /// The year in UTC, or 0 before 1970.
-    year: u16,
 }
 
 impl Now {
     pub(crate) fn of(instant: Timestamp) -> Now
         ensures { result ≡ Spec.now_at instant.nanosecond }
     {
-        let seconds = instant.as_second();
         Now {
-            seconds,
-            year: utc_year(seconds),
+            seconds: instant.as_second(),
         }
     }
 }
@@ -155,6 +151,7 @@ pub(crate) fn exact_seconds(fields: Fields) -> Option<i64>
 
 /// A month, a day and perhaps a year, if that is at most ten days after now, with the clock that was read before it.
 #[tactic(auto, unfolding(crate::specs::recent_date))]
+#[inline(always)]
 pub(crate) fn recent_date(
     now: Now,
     fields: Fields,
@@ -169,7 +166,7 @@ pub(crate) fn recent_date(
     }
     let year = match third {
         Some(third) => year_said(third)?,
-        None => now.year,
+        None => utc_year(now.seconds),
     };
     let dated = Fields {
         year: Some(year),

@@ -14,7 +14,7 @@ use crate::tokens::numbers::{is_too_large, number};
 pub(crate) type Stepped<'a> = Result<(Option<Fields>, &'a [u8]), Fault>;
 
 /// The least number that may be seconds since 1970: eight digits may be a date.
-const MIN_EPOCH: u64 = 100_000_000;
+pub(crate) const MIN_EPOCH: u64 = 100_000_000;
 
 /// The fields of an epoch, by the clock of UTC. Its seconds are those of the instant: an offset after it does not change them.
 fn epoch_rule<'a>(fields: Fields, n: u64, text: &'a [u8]) -> Stepped<'a>
@@ -160,6 +160,7 @@ fn bare_digits<'a>(fields: Fields, n: u64, run: &[u8], text: &'a [u8]) -> Steppe
 /// What the group says that begins with these digits, and what stands after it; `None` if there is none, or it is refused. A date
 /// whose year Git refuses refuses the text here, since Git keeps its month and day.
 #[tactic(auto, unfolding(crate::specs::group_said))]
+#[inline(always)]
 pub(crate) fn group_said<'a>(
     now: Now,
     fields: Fields,
@@ -190,6 +191,7 @@ pub(crate) fn group_said<'a>(
 
 /// What digits say. Git cuts numbers that 32 bits do not hold, but not an epoch.
 #[tactic(auto, unfolding(crate::specs::digits_rule))]
+#[inline(always)]
 pub(crate) fn digits_rule<'a>(now: Now, fields: Fields, run: &[u8], text: &'a [u8]) -> Stepped<'a>
     ensures value { Spec.step_view result ≡ Spec.digits_rule now fields run.now (Spec.tokens text.now) }
     ensures shorter { IfOk result (λ found. length found.1.now ≤ length text.now) }

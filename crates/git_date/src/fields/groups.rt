@@ -35,6 +35,7 @@ fn number_at(run: &[u8], text: &[u8]) -> Number
 
 /// A mark and the number after it.
 #[tactic(auto, unfolding(crate::specs::marked_number))]
+#[inline(always)]
 fn marked_number(text: &[u8]) -> Option<((u8, Number), &[u8])>
     ensures value { Spec.read_view result ≡ Spec.marked_number (Spec.tokens text.now) }
     ensures shorter { IfSome result (λ found. length found.1.now < length text.now) }
@@ -133,6 +134,7 @@ impl Group {
     /// `MM/DD/YYYY` or `DD.MM.YYYY`, as in git-commit's manual, perhaps without a year. What is no such date, or is too far ahead,
     /// is read the other way round: in August `10/09/2009` is in September.
     #[tactic(auto, unfolding(crate::specs::day_month_group))]
+    #[inline(always)]
     fn day_month_group(self, now: Now, fields: Fields) -> Dated
         ensures { result ≡ Spec.day_month_group now fields self }
     {

@@ -38,6 +38,7 @@ fn padded_by<'a>(negative: bool, before: usize, run: &[u8], text: &'a [u8]) -> (
 }
 
 /// The number that stands after white space of so many bytes.
+#[inline(always)]
 fn padded_after(before: usize, text: &[u8]) -> Option<(Padded, &[u8])>
     requires { before < 9_223_372_036_854_775_808 }
     ensures value { Spec.read_view result ≡ Spec.padded_after before (Spec.tokens text.now) }
@@ -61,6 +62,7 @@ fn padded_after(before: usize, text: &[u8]) -> Option<(Padded, &[u8])>
 
 /// A number after white space and perhaps a sign.
 #[tactic(auto, unfolding(crate::specs::padded_number))]
+#[inline(always)]
 fn padded_number(text: &[u8]) -> Option<(Padded, &[u8])>
     ensures value { Spec.read_view result ≡ Spec.padded_number (Spec.tokens text.now) }
     ensures shorter { IfSome result (λ found. length found.1.now ≤ length text.now) }
@@ -162,6 +164,7 @@ impl Fields {
 }
 
 /// What a sign directly before digits says.
+#[inline(always)]
 pub(crate) fn offset_rule<'a>(
     fields: Fields,
     behind: bool,

@@ -2,6 +2,8 @@
 ghost use Rattle.std.specs.Prelude.{◌≡◌};
 ghost use Rattle.git_date.specs as Spec;
 
+use gix_date::parse_short_digits;
+
 /// The greatest number that 32 bits hold with a sign, as Git's dates keep numbers.
 pub(crate) const MAX_SMALL: u64 = 2_147_483_647;
 
@@ -11,12 +13,15 @@ const MAX_GROUPED: u64 = 9_223_372_036_854_775_807;
 /// How many numbers 32 bits hold.
 pub(crate) const NUMBERS_OF_32_BITS: u64 = 4_294_967_296;
 
-/// The number that digits write, or else the greatest, at which Git stops.
-#[tactic(auto, using(crate::proofs::Rules::Saturated::saturated_is))]
+/// The number that digits write, or else the greatest, at which Git stops. Nearly all are short, and need no limit.
+#[tactic(auto, using(crate::proofs::Rules::Saturated::short_is, crate::proofs::Rules::Saturated::saturated_is))]
 pub(crate) fn number(digits: &[u8]) -> u64
     ensures { result ≡ Spec.number digits.now }
 {
-    saturated(digits)
+    match parse_short_digits(digits) {
+        Some(n) => n,
+        None => saturated(digits),
+    }
 }
 
 #[tactic(auto, unfolding(crate::specs::saturated))]

@@ -1,13 +1,11 @@
 -- A number of seconds at the front of what is left: from 100000000 it is those seconds, and a smaller one, or one with a sign,
 -- says no time.
-use Rattle.std.proofs.Common.{◌≡◌, ◌∙◌, ◌<◌, ◌≤◌, ◌/◌, ◌%◌, ◌^◌, ◌⊎◌, inl, inr, ℕ, ℤ, pos, nat_le, nat_lt, Bool, true, false, cond, List}
-use Rattle.std.proofs.Common.{[], ◌∷◌, ◌++◌, length, Option, Some, None, Ok, refl, ap, sym, subst, arith}
+use Rattle.std.proofs.Common.{◌≡◌, ◌<◌, ◌≤◌, ◌/◌, ◌%◌, ◌⊎◌, inl, inr, ℕ, ℤ, pos, nat_le, nat_lt, Bool, true, false, cond, List}
+use Rattle.std.proofs.Common.{[], ◌∷◌, ◌++◌, length, Option, Some, None, Ok, refl, sym, subst, arith}
 use Rattle.std.specs.Prelude.{◌==◌, option_map, ok_or}
-use Rattle.std.specs.Char.{is_ascii_digit}
-use Rattle.std.specs.List.{fold}
 use Rattle.std.specs.Str.{all_ascii_digits}
-use Rattle.std.specs.Str.Parse.{digits_value, digits_value_after, signed_digits_value, without_leading_sign}
-use Rattle.std.proofs.lemmas.Bool.{and_parts, eqb-true as is-mark, cases_lt}
+use Rattle.std.specs.Str.Parse.{signed_digits_value, without_leading_sign}
+use Rattle.std.proofs.lemmas.Bool.{eqb-true as is-mark, cases_lt}
 use Rattle.std.proofs.lemmas.Bool.Decides.{nat_tests}
 use Rattle.gix_date.proofs.Fast.FastHeaders.{int-taken}
 use Rattle.gix_date.proofs.Text.Ints.{each_of}
@@ -18,12 +16,13 @@ use Rattle.gix_date.specs.declared.time.Time.{Time}
 use Rattle.git_date.proofs.Exact.PrintedClocks.{run-before}
 use Rattle.git_date.proofs.Rules.ClocksBack.{shown_of}
 use Rattle.git_date.proofs.Rules.Kept.{either}
+use Rattle.git_date.proofs.Rules.Saturated.{number-is}
 use Rattle.git_date.specs.Rules.Clocks.{utc_clock}
 use Rattle.git_date.specs.Rules.Dates.{is_day_of_month, year_said, by_year, year_date}
 use Rattle.git_date.specs.Rules.Digits.{Stepped, with_epoch, by_date, eight_digits, bare_digits, digits_rule, group_said}
 use Rattle.git_date.specs.Rules.Fields.{unknown}
 use Rattle.git_date.specs.Rules.Groups.{marked_number, group_of, without_fraction}
-use Rattle.git_date.specs.Tokens.Numbers.{digit_more, number}
+use Rattle.git_date.specs.Tokens.Numbers.{number}
 use Rattle.git_date.specs.Rules.Offsets.{offset_minutes, two_digit_offset, offset_said, SaidOffset, with_offset}
 use Rattle.git_date.specs.Exact.Reading.{ended, sign_rule}
 use Rattle.git_date.specs.Tokens.Tokens.{Token, Letters, Digits, Mark, tokens}
@@ -33,16 +32,6 @@ use Rattle.git_date_laws.proofs.Back.ExactNothing.{AllLack, Lacking, bare-lacks}
 use Rattle.git_date_laws.proofs.Agreement.Steps.{Ends, ends-free, ends-kept, IsPartial, Goes, Step, After, goes, sign-goes, no-offset}
 use Rattle.git_date.specs.Tokens.Steps.{and_then}
 use Rattle.git_date.specs.Types.FaultCases.{Range}
-
-folded : (v : ℕ) (run : List ℕ) → all_ascii_digits run ≡ true → fold digit_more v run ≡ digits_value_after 10 v run
-folded v [] h = refl
-folded v (c ∷ run) h =
-    let both = and_parts (is_ascii_digit c) (all_ascii_digits run) h in
-    folded (digit_more v c) run both.1 ∙ ap (λ (k : ℕ). digits_value_after 10 k run) (grind (arith, nat_tests, both.0))
-
-number-is : (run : List ℕ) → all_ascii_digits run ≡ true → digits_value 10 run < 2 ^ 63 → number run ≡ digits_value 10 run
-unfolding number
-number-is run h short = let whole = folded 0 run h in omega arith
 
 -- digits, after a sign or none
 pub record IsBare (x : List ℕ) (n : ℤ) : Type 0 where

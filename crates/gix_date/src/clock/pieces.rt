@@ -258,6 +258,19 @@ pub fn push_minutes<const CAP: usize>(text: &mut ArrayString<CAP>, offset: Offse
     push_pair(text, minutes as u8);
 }
 
+/// ` +hhmm` of an offset.
+#[inline(always)]
+fn offset_bytes(offset: OffsetInSeconds) -> [u8; 6]
+    requires { unsigned_abs offset < Spec.hundred_hours }
+    ensures { result ≡ Spec.space ∷ Spec.compact_offset_text offset }
+{
+    let distance = offset.unsigned_abs();
+    let [a, b] = two_digits((distance / SECONDS_PER_HOUR as u32) as u8);
+    let [c, d] = two_digits((distance % SECONDS_PER_HOUR as u32 / SECONDS_PER_MINUTE as u32) as u8);
+    let sign = if offset < 0 { b'-' } else { b'+' };
+    [b' ', sign, a, b, c, d]
+}
+
 /// Appends ` +hhmm`.
 #[inline(always)]
 pub fn push_offset<const CAP: usize>(text: &mut ArrayString<CAP>, offset: OffsetInSeconds)
@@ -266,9 +279,7 @@ pub fn push_offset<const CAP: usize>(text: &mut ArrayString<CAP>, offset: Offset
     ensures bytes { text.new.bytes ≡ text.old.bytes ++ Spec.space ∷ Spec.compact_offset_text offset }
     ensures len { array_string_len text.new ≡ array_string_len text.old + 6 }
 {
-    text.push(' ');
-    push_hours(text, offset);
-    push_minutes(text, offset);
+    push_ascii(text, &offset_bytes(offset));
 }
 
 /// Appends `+hh:mm`.

@@ -45,7 +45,7 @@ pub(crate) fn fast_int(text: &[u8]) -> Option<i64>
 
 /// The value of a few digits. Nearly all times have ten.
 #[inline(always)]
-fn parse_short_digits(digits: &[u8]) -> Option<u64>
+pub fn parse_short_digits(digits: &[u8]) -> Option<u64>
     ensures some { IfSome result (λ n. 0 < length digits.now) }
     ensures digits { IfSome result (λ n. all_ascii_digits digits.now ≡ true) }
     ensures value { IfSome result (λ n. n ≡ digits_value 10 digits.now) }
@@ -69,7 +69,7 @@ fn parse_short_digits(digits: &[u8]) -> Option<u64>
 
 /// The value of ten digits, without a loop.
 #[inline(always)]
-fn parse_ten_digits(digits: &[u8]) -> Option<u64>
+pub fn parse_ten_digits(digits: &[u8]) -> Option<u64>
     ensures some { IfSome result (λ n. 0 < length digits.now) }
     ensures digits { IfSome result (λ n. all_ascii_digits digits.now ≡ true) }
     ensures value { IfSome result (λ n. n ≡ digits_value 10 digits.now) }

@@ -48,12 +48,10 @@ signed-back (pos k) =
 signed-back (negsuc k) = refl
 
 and-none : (b : Bool) → (b && false) ≡ false
-and-none true = refl
-and-none false = refl
+and-none b = grind arith
 
 not-so : (b : Bool) → (b ≡ true → ⊥) → b ≡ false
-not-so true h = absurd (h refl)
-not-so false h = refl
+not-so b h = grind arith
 
 no-zero : (k : ℕ) → int_eq (pos (suc k)) (pos 0) ≡ false
 no-zero k = grind (arith, ints)

@@ -1,6 +1,6 @@
 -- What stands after texts at the front of another.
 use Rattle.std.proofs.Common.{◌≡◌, ◌≢◌, ◌∙◌, ℕ, Bool, true, false, List, ◌++◌, length, take, drop, Option, Some, None, option_map}
-use Rattle.std.proofs.Common.{refl, ap, sym}
+use Rattle.std.proofs.Common.{ap, sym, arith}
 use Rattle.std.proofs.Common.{append_assoc, eqb, ◌+◌}
 use Rattle.std.proofs.lemmas.Bool.Decides.{Decides-eqb}
 use Rattle.std.proofs.lemmas.List.{append_cancel_left}
@@ -32,9 +32,7 @@ cut front text (Some x) h = strip_prefix_is Decides-eqb text front (Some x) h
 
 -- one test is another
 same-tests : (a b : Bool) → (a ≡ true → b ≡ true) → (b ≡ true → a ≡ true) → a ≡ b
-same-tests true b to from = sym (to refl)
-same-tests false true to from = from refl
-same-tests false false to from = refl
+same-tests a b to from = grind arith
 
 module _ (line name email time : List ℕ) where
   abbrev front : List ℕ

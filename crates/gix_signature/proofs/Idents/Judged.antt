@@ -22,17 +22,13 @@ use Rattle.gix_signature.specs.declared.fsck.FsckId.TheVariants.{MissingSpaceBef
 use Rattle.gix_signature.specs.declared.fsck.FsckId.TheVariants.{BadDateOverflow, BadDate, BadTimezone}
 use Rattle.gix_signature.proofs.Idents.Shown.{before-at, after-at, there-at}
 use Rattle.gix_signature.proofs.Cuts.{all-of}
-use Rattle.gix_signature.proofs.Idents.Passing.{from-at, not-left}
-use Rattle.gix_signature.proofs.Texts.{add-one-front, none_there}
+use Rattle.gix_signature.proofs.Idents.Passing.{from-at, none-passes}
+use Rattle.gix_signature.proofs.Idents.Near.{run-passes}
+use Rattle.gix_signature.proofs.Texts.{add-one-front, none_there, none_is}
 
 -- none of a text passes, said of each byte
-none-by : (b r : Bool) (rest : Bool) → (r ≡ false → rest ≡ true) → (b || r) ≡ false → (not b && rest) ≡ true
-none-by true r rest h e = absurd cc
-none-by false r rest h e = h e
-
 none-all : (p : ℕ → Bool) (xs : List ℕ) → list_any p xs ≡ false → list_all (λ c. not (p c)) xs ≡ true
-none-all p [] h = refl
-none-all p (x ∷ xs) h = none-by (p x) (list_any p xs) (list_all (λ c. not (p c)) xs) (none-all p xs) h
+none-all p xs h = none_is p xs ∙ ap not h
 
 -- Where a line ends at NUL, the line of `git fsck` holds it there. Else it is the line, and holds none.
 abbrev Ended : (n k : ℕ) (text : List ℕ) → Type 0
@@ -128,12 +124,10 @@ none-left xs e =
     none_there is_bracket xs (omega (arith, none, most, length-drop (position_or_len is_bracket xs) xs))
 
 left-false : (a b c : Bool) → ((a || b) || c) ≡ false → a ≡ false
-left-false true b c e = absurd cc
-left-false false b c e = refl
+left-false a b c e = grind (arith, e)
 
 right-true : (a b : Bool) → a ≡ false → (a || b) ≡ true → b ≡ true
-right-true true b h k = absurd cc
-right-true false b h k = k
+right-true a b h k = grind arith
 
 no-opening-first : (xs : List ℕ) → list_any is_bracket xs ≡ false → begins_with is_opening xs ≡ false
 no-opening-first [] e = refl
@@ -158,7 +152,7 @@ bracket-off : (name inside : List ℕ) → list_any is_bracket name ≡ false �
 bracket-off name inside none = from-at is_bracket name inside opening (none-all is_bracket name none) refl
 
 not-opening : (name : List ℕ) → list_any is_bracket name ≡ false → list_all (λ c. not (is_opening c)) name ≡ true
-not-opening name none = all-of (λ c. not (is_bracket c)) (λ c. not (is_opening c)) (λ c h. not-left (is_opening c) (is_closing c) h) name
+not-opening name none = all-of (λ c. not (is_bracket c)) (λ c. not (is_opening c)) (λ c h. grind (arith, nat_tests, h)) name
     (none-all is_bracket name none)
 
 begins-by : (xs ys : List ℕ) → list_any is_bracket xs ≡ false → begins_with is_opening (xs ++ (opening ∷ ys)) ≡ (length xs == 0)
@@ -185,14 +179,8 @@ opened name inside nul none =
     ∙ ap₂ (λ f l. by_parts false (length name == 0) false false f (from_bracket l)) (before-at is_opening name inside opening front refl)
     (after-at is_opening name inside opening front refl)
 
-before-by : (p : ℕ → Bool) (x : ℕ) (xs : List ℕ) (b : Bool) → p x ≡ b → list_any p (take (position_or_len p xs) xs) ≡ false
-    → list_any p (take (cond (not b) (1 + position_or_len p xs) 0) (x ∷ xs)) ≡ false
-before-by p x xs true e h = refl
-before-by p x xs false e h = rw (add-one-front (position_or_len p xs)) (ap₂ (λ a b. a || b) e h)
-
 none-before : (p : ℕ → Bool) (xs : List ℕ) → list_any p (take (position_or_len p xs) xs) ≡ false
-none-before p [] = refl
-none-before p (x ∷ xs) = before-by p x xs (p x) refl (none-before p xs)
+none-before p xs = none-passes p (take (position_or_len p xs) xs) (run-passes (λ c. not (p c)) xs)
 
 -- what a line is, whose first bracket is this
 head-is : (c : ℕ) (rest : List ℕ) → is_opening c ≡ true → c ∷ rest ≡ opening ∷ rest

@@ -1,86 +1,18 @@
 -- The ends of parts and of digits, looked for in a block of bytes.
-use Rattle.std.proofs.Common.{◌≡◌, ◌≢◌, ◌∙◌, ℕ, zero, suc, ◌+◌, ◌<◌, ◌≤◌, ◌%◌, ◌^◌, min, Bool, true, false, cond, not, ◌||◌, ◌&&◌, ◌==◌}
-use Rattle.std.proofs.Common.{eqb, List, []}
+use Rattle.std.proofs.Common.{◌≡◌, ◌≢◌, ◌∙◌, ℕ, zero, suc, ◌+◌, ◌<◌, ◌≤◌, ◌%◌, ◌^◌, Bool, true, cond, not, ◌||◌, ◌&&◌, ◌==◌, bit_or}
+use Rattle.std.proofs.Common.{eqb, List, [], subst, drop}
 use Rattle.std.proofs.Common.{◌∷◌, map, length, take, get_or, replicate, refl, sym, ap, ap₂, arith, Fits, w8}
-use Rattle.std.proofs.lemmas.Bool.{and_from}
 use Rattle.std.proofs.lemmas.Bool.Decides.{nat_tests}
-use Rattle.std.proofs.lemmas.List.Folds.{list_all_more}
-use Rattle.std.proofs.lemmas.Simd.{bitmask_splat, first_set_mask_l, length-chunk, run_in_chunk_le, run_in_chunk_fails}
+use Rattle.std.proofs.lemmas.List.{take-append-drop, length-map}
+use Rattle.std.proofs.lemmas.List.Folds.{list_all_more, prefix_len-append}
+use Rattle.std.proofs.lemmas.List.Sums.{prefix_len-le-length, prefix_len_passes}
+use Rattle.std.proofs.lemmas.Simd.{first_set_mask_l, length-chunk, mask_l-mod, run_in_chunk_le, run_in_chunk_fails}
 use Rattle.std.specs.Char.{is_ascii_digit}
-use Rattle.std.specs.List.{list_all, position_or_len, prefix_len}
+use Rattle.std.specs.List.{list_all, prefix_len}
 use Rattle.gix_date.proofs.Fast.Pairs.{is_other, other_bits, other-bits, digit}
 use Rattle.gix_signature.specs.Signature.{is_allowed}
-use Rattle.gix_signature.proofs.Texts.{add-one-front}
 use lib.Count.{count_trailing_zeros}
 use lib.Lanes.{chunk, mask_l, top, zip2}
-
--- what the walk finds
-passes-by : (p : ℕ → Bool) (x : ℕ) (xs : List ℕ) (b : Bool) → p x ≡ b → list_all p (take (prefix_len p xs) xs) ≡ true
-    → list_all p (take (cond b (1 + prefix_len p xs) 0) (x ∷ xs)) ≡ true
-passes-by p x xs true e h = rw (add-one-front (prefix_len p xs)) (and_from (p x) (list_all p (take (prefix_len p xs) xs)) e h)
-passes-by p x xs false e h = refl
-
-pub run-passes : (p : ℕ → Bool) (xs : List ℕ) → list_all p (take (prefix_len p xs) xs) ≡ true
-run-passes p [] = refl
-run-passes p (x ∷ xs) = passes-by p x xs (p x) refl (run-passes p xs)
-
--- the bits of the first 32 bytes that are such a byte
-abbrev pub near_bits : ℕ → List ℕ → ℕ
-near_bits byte text = mask_l (map (top 7) (zip2 (λ a b. cond (eqb a b) 255 0) (chunk 0 32 text) (replicate 32 byte))) % 2 ^ 64
-
-abbrev place_of : ℕ → ℕ
-place_of bits = cond (eqb bits 0) 32 (count_trailing_zeros 64 bits)
-
-near-is : (text : List ℕ) (byte : ℕ) → 32 ≤ length text → place_of (near_bits byte text) ≡ position_or_len (λ c. c == byte) (take 32 text)
-near-is text byte room =
-    ap place_of (bitmask_splat w8 eqb (chunk 0 32 text) 32 byte (length-chunk 0 32 text (omega arith)) (omega arith))
-    ∙ first_set_mask_l (λ c. c == byte) (chunk 0 32 text) 32 (length-chunk 0 32 text (omega arith)) (omega arith)
-
--- where a block does not have the byte, and where it does
-pub none_near : (text : List ℕ) (byte : ℕ) → 32 ≤ length text → near_bits byte text ≡ 0
-    → 32 ≡ position_or_len (λ c. c == byte) (take 32 text)
-none_near text byte room none = sym (ap place_of none) ∙ near-is text byte room
-
-pub first_near : (text : List ℕ) (byte : ℕ) → 32 ≤ length text → near_bits byte text ≢ 0
-    → count_trailing_zeros 64 (near_bits byte text) ≡ position_or_len (λ c. c == byte) (take 32 text)
-first_near text byte room some =
-    let bits = near_bits byte text in
-    let test : eqb bits 0 ≡ false = grind (arith, nat_tests, some) in
-    sym (ap (λ b. cond b 32 (count_trailing_zeros 64 bits)) test) ∙ near-is text byte room
-
--- the first of two kinds
-lesser : (a b : Bool) (m k n : ℕ) → m ≡ min k n → cond (not (a || b)) (1 + m) 0 ≡ min (cond (not a) (1 + k) 0) (cond (not b) (1 + n) 0)
-lesser true true m k n e = refl
-lesser true false m k n e = omega arith
-lesser false true m k n e = omega arith
-lesser false false m k n e = omega arith
-
-first-of : (p q : ℕ → Bool) (xs : List ℕ) → position_or_len (λ c. p c || q c) xs ≡ min (position_or_len p xs) (position_or_len q xs)
-first-of p q [] = refl
-first-of p q (x ∷ xs) =
-    lesser (p x) (q x) (position_or_len (λ c. p c || q c) xs) (position_or_len p xs) (position_or_len q xs) (first-of p q xs)
-
--- a run that ends in a front of a text
-run-step : (b : Bool) (n m k : ℕ) → (m < n → m ≡ k) → cond b (1 + m) 0 < suc n → cond b (1 + m) 0 ≡ cond b (1 + k) 0
-run-step false n m k more h = refl
-run-step true n m k more h = ap (λ i. 1 + i) (more (omega arith))
-
-near-run : (p : ℕ → Bool) (n : ℕ) (xs : List ℕ) → prefix_len p (take n xs) < n → prefix_len p (take n xs) ≡ prefix_len p xs
-near-run p zero xs h = absurd (omega arith)
-near-run p (suc n) [] h = refl
-near-run p (suc n) (x ∷ xs) h = run-step (p x) n (prefix_len p (take n xs)) (prefix_len p xs) (near-run p n xs) h
-
--- the end of a part that is near
-pub part_near : (text : List ℕ) (i j k l : ℕ) → i ≡ position_or_len (λ c. c == 60) (take 32 text)
-    → j ≡ position_or_len (λ c. c == 62) (take 32 text) → k ≡ position_or_len (λ c. c == 10) (take 32 text)
-    → l ≡ position_or_len (λ c. c == 0) (take 32 text) → min (min i j) (min k l) < 32 → min (min i j) (min k l) ≡ prefix_len is_allowed text
-part_near text i j k l at-i at-j at-k at-l near =
-    let front = take 32 text in
-    let bracket = first-of (λ c. c == 60) (λ c. c == 62) front in
-    let three = first-of (λ c. c == 60 || c == 62) (λ c. c == 10) front in
-    let all = first-of (λ c. c == 60 || c == 62 || c == 10) (λ c. c == 0) front in
-    let four : min (min i j) (min k l) ≡ prefix_len is_allowed front = omega (arith, at-i, at-j, at-k, at-l, bracket, three, all) in
-    four ∙ near-run is_allowed 32 text (omega (arith, four, near))
 
 -- where each of the first n elements passes
 all_before : (p : ℕ → Bool) (xs : List ℕ) (n : ℕ) → n ≤ length xs → ((k : ℕ) → k < n → p (get_or xs k 0) ≡ true)
@@ -90,6 +22,49 @@ all_before p xs (suc n) room each =
     let front : list_all p (take n xs) ≡ true = all_before p xs n (omega arith) (λ k l. each k (omega arith)) in
     let next : suc n ≡ n + 1 = omega arith in
     ap (λ m. list_all p (take m xs)) next ∙ list_all_more p xs n 0 (omega arith) ∙ ap₂ (λ (a b : Bool). a && b) front (each n (omega arith))
+
+-- what the walk finds
+pub run-passes : (p : ℕ → Bool) (xs : List ℕ) → list_all p (take (prefix_len p xs) xs) ≡ true
+run-passes p xs = all_before p xs (prefix_len p xs) (prefix_len-le-length p xs) (λ k l. prefix_len_passes p xs k 0 l)
+
+-- the lanes of a block that end a part, as they are compared, and what their top bits tell
+abbrev lanes : ℕ → List ℕ → ℕ → List ℕ
+lanes n block byte = zip2 (λ a b. cond (eqb a b) 255 0) block (replicate n byte)
+
+abbrev tops : ℕ → List ℕ → List Bool
+tops n block =
+    map (top 7) (zip2 bit_or (zip2 bit_or (zip2 bit_or (lanes n block 60) (lanes n block 62)) (lanes n block 10)) (lanes n block 0))
+
+abbrev ends_part : ℕ → Bool
+ends_part c = c == 60 || c == 62 || c == 10 || c == 0
+
+top-is : (a b c d : Bool)
+    → top 7 (bit_or (bit_or (bit_or (cond a 255 0) (cond b 255 0)) (cond c 255 0)) (cond d 255 0)) ≡ (a || b || c || d)
+top-is a b c d = grind arith
+
+tops-are : (block : List ℕ) → tops (length block) block ≡ map ends_part block
+tops-are [] = refl
+tops-are (x ∷ xs) = ap₂ (λ (b : Bool) (bs : List Bool). b ∷ bs) (top-is (x == 60) (x == 62) (x == 10) (x == 0)) (tops-are xs)
+
+-- the place that the bits of a block tell
+abbrev pub place_of : ℕ → ℕ
+place_of bits = cond (eqb bits 0) 16 (count_trailing_zeros 64 bits)
+
+pub one_near : (bits : ℕ) → bits ≢ 0 → place_of bits ≡ count_trailing_zeros 64 bits
+one_near bits some = grind (arith, nat_tests, some)
+
+-- a part that ends at a place in the first block, or goes on after that
+pub near : (text : List ℕ) (n : ℕ) → 16 ≤ length text → place_of (mask_l (tops 16 (take 16 text)) % 2 ^ 64) ≡ n
+    → (prefix_len is_allowed text ≡ n + cond (n == 16) (prefix_len is_allowed (drop 16 text)) 0) × (n ≤ 16)
+near text n room at =
+    let block = take 16 text in
+    let long : length block ≡ 16 = length-chunk 0 16 text room in
+    let bits = ap mask_l (subst (λ k. tops k block ≡ map ends_part block) long (tops-are block)) in
+    let is : n ≡ prefix_len is_allowed block = sym at ∙ ap (λ m. place_of (m % 2 ^ 64)) bits
+    ∙ ap place_of (mask_l-mod (map ends_part block) 64 (omega (arith, length-map block ends_part, long)))
+    ∙ first_set_mask_l ends_part block 16 long (omega arith) in
+    let whole = ap (prefix_len is_allowed) (sym (take-append-drop 16 text)) ∙ prefix_len-append is_allowed block (drop 16 text) in
+    (grind (arith, nat_tests, whole, long, is), omega (arith, is, prefix_len-le-length is_allowed block, long))
 
 run : (bytes : List ℕ) (r : ℕ) → 16 ≤ length bytes → ((k : ℕ) → Fits w8 (get_or bytes k 0))
     → r ≡ prefix_len (λ b. not (is_other b)) (chunk 0 16 bytes)
@@ -102,21 +77,15 @@ run bytes r room fits counted =
     )
 
 -- how many bytes of a block come before the first that is no digit
-abbrev run_of : ℕ → ℕ
-run_of m = cond (eqb m 0) 16 (count_trailing_zeros 64 m)
-
-counted-run : (bytes : List ℕ) → 16 ≤ length bytes → run_of (other_bits 16 bytes) ≡ prefix_len (λ b. not (is_other b)) (chunk 0 16 bytes)
-counted-run bytes room = ap run_of (other-bits 16 bytes room (omega arith))
+counted-run : (bytes : List ℕ) → 16 ≤ length bytes → place_of (other_bits 16 bytes) ≡ prefix_len (λ b. not (is_other b)) (chunk 0 16 bytes)
+counted-run bytes room = ap place_of (other-bits 16 bytes room (omega arith))
     ∙ first_set_mask_l is_other (chunk 0 16 bytes) 16 (length-chunk 0 16 bytes (omega arith)) (omega arith)
 
 -- where a block has another byte
 digits-before : (bytes : List ℕ) → 16 ≤ length bytes → ((k : ℕ) → Fits w8 (get_or bytes k 0)) → other_bits 16 bytes ≢ 0
     → (count_trailing_zeros 64 (other_bits 16 bytes) ≤ 16)
     × (list_all is_ascii_digit (take (count_trailing_zeros 64 (other_bits 16 bytes)) bytes) ≡ true)
-digits-before bytes room fits some =
-    let m = other_bits 16 bytes in
-    let test : eqb m 0 ≡ false = grind (arith, nat_tests, some) in
-    run bytes (count_trailing_zeros 64 m) room fits (sym (ap (λ b. cond b 16 (count_trailing_zeros 64 m)) test) ∙ counted-run bytes room)
+digits-before bytes room fits some = run bytes _ room fits (sym (one_near (other_bits 16 bytes) some) ∙ counted-run bytes room)
 
 pub digits_few : (bytes : List ℕ) → 16 ≤ length bytes → ((k : ℕ) → Fits w8 (get_or bytes k 0)) → other_bits 16 bytes ≢ 0
     → count_trailing_zeros 64 (other_bits 16 bytes) ≤ 16

@@ -1,5 +1,5 @@
 -- A line of plain parts, a decimal number and an offset has no fault, and is shown so.
-use Rattle.std.proofs.Common.{◌≡◌, ◌∙◌, ℕ, ◌+◌, ◌-◌, Bool, true, false, cond, not, ◌||◌, ◌==◌, ◌<◌, ℤ, pos, unsigned_abs, List, [], ◌∷◌}
+use Rattle.std.proofs.Common.{◌≡◌, ◌∙◌, ℕ, ◌+◌, ◌-◌, Bool, true, false, cond, not, ◌<◌, ℤ, pos, unsigned_abs, List, [], ◌∷◌}
 use Rattle.std.proofs.Common.{◌++◌, length, drop, reverse, Some, None, option_map, refl, ap, ap₂, sym, subst, arith, length-append}
 use Rattle.std.proofs.Common.{append_assoc}
 use Rattle.std.proofs.Math.Seq.{drop-append_seam, drop-append-add}
@@ -41,7 +41,7 @@ unfolding first_fault
 first-none line none = find-none (has_fault line) none fsck_ids
 
 -- no byte of a text passes
-none-passes : (p : ℕ → Bool) (xs : List ℕ) → list_all (λ c. not (p c)) xs ≡ true → list_any p xs ≡ false
+pub none-passes : (p : ℕ → Bool) (xs : List ℕ) → list_all (λ c. not (p c)) xs ≡ true → list_any p xs ≡ false
 none-passes p xs h = none_there p xs (run-all (λ c. not (p c)) xs h)
 
 pub from-at : (p : ℕ → Bool) (xs ys : List ℕ) (c : ℕ) → list_all (λ b. not (p b)) xs ≡ true → p c ≡ true
@@ -49,8 +49,7 @@ pub from-at : (p : ℕ → Bool) (xs ys : List ℕ) (c : ℕ) → list_all (λ b
 from-at p xs ys c others is = ap (λ n. drop n (xs ++ (c ∷ ys))) (place-at p xs ys c others is) ∙ drop-append_seam xs (c ∷ ys)
 
 not-false : (b : Bool) → not b ≡ true → b ≡ false
-not-false true h = absurd cc
-not-false false h = refl
+not-false b h = grind arith
 
 begins-other : (p : ℕ → Bool) (xs ys : List ℕ) (c : ℕ) → list_all (λ b. not (p b)) xs ≡ true → p c ≡ false
     → begins_with p (xs ++ (c ∷ ys)) ≡ false
@@ -86,21 +85,8 @@ not_newline c = not (is_newline c)
 abbrev not_nul : ℕ → Bool
 not_nul c = not (is_nul c)
 
-no-bracket-byte : (a b c d : Bool) → not (a || b || c || d) ≡ true → not (a || b) ≡ true
-no-bracket-byte true b c d h = absurd cc
-no-bracket-byte false true c d h = absurd cc
-no-bracket-byte false false c d h = refl
-
-pub not-left : (a b : Bool) → not (a || b) ≡ true → not a ≡ true
-not-left true b h = absurd cc
-not-left false b h = refl
-
-not-right : (a b : Bool) → not (a || b) ≡ true → not b ≡ true
-not-right true b h = absurd cc
-not-right false b h = h
-
 no-bracket : (xs : List ℕ) → is_part xs ≡ true → list_all not_bracket xs ≡ true
-no-bracket = all-of is_allowed not_bracket (λ c h. no-bracket-byte (c == 60) (c == 62) (c == 10) (c == 0) h)
+no-bracket = all-of is_allowed not_bracket (λ c h. grind (arith, nat_tests, h))
 
 module _ (name email : List ℕ) (n d : ℕ) (ds : List ℕ) (s : ℕ) (zs : List ℕ) (is : IsDate n d ds s zs) where
   abbrev zone : List ℕ
@@ -132,10 +118,10 @@ module _ (name email : List ℕ) (n d : ℕ) (ds : List ℕ) (s : ℕ) (zs : Lis
     goes-on = all-on the_parts are
 
     no-nul : list_all not_nul line ≡ true
-    no-nul = all-of goes_on not_nul (λ c h. not-right (is_newline c) (is_nul c) h) line goes-on
+    no-nul = all-of goes_on not_nul (λ c h. grind (arith, nat_tests, h)) line goes-on
 
     no-newline : list_all not_newline line ≡ true
-    no-newline = all-of goes_on not_newline (λ c h. not-left (is_newline c) (is_nul c) h) line goes-on
+    no-newline = all-of goes_on not_newline (λ c h. grind (arith, nat_tests, h)) line goes-on
 
     no-mark : list_all not_bracket named ≡ true
     no-mark = all-append not_bracket name (32 ∷ []) (no-bracket name are.name) refl

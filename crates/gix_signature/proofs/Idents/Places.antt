@@ -1,13 +1,13 @@
 -- The places of a line's parts.
-use Rattle.std.proofs.Common.{◌≡◌, ◌∙◌, ℕ, ◌+◌, ◌-◌, ◌<◌, ◌≤◌, Bool, true, false, cond, not, ◌&&◌, List, [], ◌∷◌, ◌++◌, length, take, drop}
-use Rattle.std.proofs.Common.{zero, suc, Some, None, IfSome, get_or, refl, ap, ap₂, sym, subst, arith}
+use Rattle.std.proofs.Common.{◌≡◌, ◌∙◌, ℕ, ◌+◌, ◌-◌, ◌<◌, ◌≤◌, Bool, true, false, cond, not, ◌&&◌, List, ◌∷◌, ◌++◌, length, take, drop}
+use Rattle.std.proofs.Common.{Some, None, IfSome, get_or, refl, ap, ap₂, sym, subst, arith}
+use Rattle.std.proofs.Math.Seq.{take-append_seam, drop-append_seam}
 use Rattle.std.proofs.lemmas.Bool.{and_parts}
 use Rattle.std.proofs.lemmas.Bool.Decides.{nat_tests}
 use Rattle.std.proofs.lemmas.List.{length-take, length-drop, take-take, take-append-drop, drop-drop}
 use Rattle.std.proofs.lemmas.List.Sums.{split_at_first, passes_at_first}
 use Rattle.std.specs.Char.{is_ascii_digit}
 use Rattle.std.specs.List.{list_any, position_or_len, prefix_len, suffix_len, before_first, after_first, after_last, take_while}
-use Rattle.std.specs.Prelude.{nat_lt}
 use Rattle.gix_signature.specs.Signature.{closing}
 use Rattle.gix_signature.specs.Ident.Bytes.{is_opening, is_closing, is_blank}
 use Rattle.gix_signature.specs.Ident.Texts.{whole_line, without_front, begins_with}
@@ -19,25 +19,13 @@ use Rattle.gix_signature.proofs.Texts.{place_within}
 
 -- a front of a text stands at its front
 front-stands : (n : ℕ) (xs : List ℕ) → take (length (take n xs)) xs ≡ take n xs
-front-stands zero xs = refl
-front-stands (suc n) [] = refl
-front-stands (suc n) (x ∷ xs) = ap (λ l. x ∷ l) (front-stands n xs)
-
--- nothing stands after all
-none-left : (xs : List ℕ) → length xs ≡ 0 → xs ≡ []
-none-left [] h = refl
-none-left (x ∷ xs) h = absurd (omega (arith, h))
+front-stands n xs = ap (λ l. take (length (take n xs)) l) (sym (take-append-drop n xs)) ∙ take-append_seam (take n xs) (drop n xs)
 
 -- what stands after so many bytes begins at as many as the text is longer
 end-place : (n : ℕ) (xs : List ℕ) → drop (length xs - length (drop n xs)) xs ≡ drop n xs
-end-place n xs = by-room (nat_lt n (length xs)) refl
-  where
-    by-room : (b : Bool) → nat_lt n (length xs) ≡ b → drop (length xs - length (drop n xs)) xs ≡ drop n xs
-    by-room true e = ap (λ k. drop k xs) (grind (arith, nat_tests, length-drop, e))
-    by-room false e =
-        let none : length (drop n xs) ≡ 0 = grind (arith, nat_tests, length-drop, e) in
-        ap (λ k. drop (length xs - k) xs) none ∙ none-left (drop (length xs - 0) xs) (omega (arith, length-drop (length xs - 0) xs))
-        ∙ sym (none-left (drop n xs) none)
+end-place n xs =
+    let at : length xs - length (drop n xs) ≡ length (take n xs) = omega (arith, length-take n xs, length-drop n xs) in
+    ap₂ (λ (k : ℕ) (l : List ℕ). drop k l) at (sym (take-append-drop n xs)) ∙ drop-append_seam (take n xs) (drop n xs)
 
 stands-after : (n : ℕ) (k : ℕ) (line : List ℕ) → StandsAt line (length line - length (drop n line)) (take k (drop n line))
 stands-after n k line = ap (λ l. take (length (take k (drop n line))) l) (end-place n line) ∙ front-stands k (drop n line)

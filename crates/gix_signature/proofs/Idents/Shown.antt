@@ -1,10 +1,11 @@
 -- What Git shows of a line that is cut.
-use Rattle.std.proofs.Common.{◌≡◌, ◌∙◌, ℕ, ◌+◌, Bool, true, false, cond, not, ◌||◌, ◌==◌, List, [], ◌∷◌, ◌++◌, length, take, drop, Some}
-use Rattle.std.proofs.Common.{None, IsSomeAnd, refl, ap, sym, arith, length-append}
-use Rattle.std.proofs.Math.Nat.{add-zero, zero-add}
+use Rattle.std.proofs.Common.{◌≡◌, ◌∙◌, ℕ, ◌+◌, Bool, true, false, cond, not, List, [], ◌∷◌, ◌++◌, length, take, drop, Some}
+use Rattle.std.proofs.Common.{None, IsSomeAnd, refl, ap, arith, length-append}
 use Rattle.std.proofs.Math.Seq.{take-append_seam, drop-append-add}
-use Rattle.std.proofs.lemmas.Bool.{and_from, and_parts}
+use Rattle.std.proofs.lemmas.Bool.{and_from}
+use Rattle.std.proofs.lemmas.Bool.Decides.{nat_tests}
 use Rattle.std.proofs.lemmas.List.{reverse-append, take-append-le, take_all}
+use Rattle.std.proofs.lemmas.List.Folds.{prefix_len-append}
 use Rattle.std.specs.List.{list_all, list_any, prefix_len, suffix_len, position_or_len, before_first, after_first}
 use Rattle.gix_date.proofs.Text.AsciiCuts.{all-append}
 use Rattle.gix_signature.specs.Signature.{Parts, is_allowed, is_part, line_of, opening, closing}
@@ -13,26 +14,18 @@ use Rattle.gix_signature.specs.Ident.Texts.{without_end}
 use Rattle.gix_signature.specs.Ident.Parts.{IdentText, line_parts, has_identity, date_parts, date_text}
 use Rattle.gix_signature.specs.Ident.Laws.{CutIsShown}
 use Rattle.gix_signature.proofs.Cuts.{ArePlain, plain, all-of, marked, no-opening, after_name}
-use Rattle.gix_signature.proofs.Texts.{one_there}
+use Rattle.gix_signature.proofs.Texts.{one_there, passed}
 
 -- all of a run at the front passes
-pub run-before : (p : ℕ → Bool) (xs ys : List ℕ) → list_all p xs ≡ true → prefix_len p (xs ++ ys) ≡ length xs + prefix_len p ys
-run-before p [] ys h = sym (zero-add (prefix_len p ys))
-run-before p (x ∷ xs) ys h =
-    let each = and_parts (p x) (list_all p xs) h in
-    let more = run-before p xs ys each.1 in
-    ap (λ b. cond b (1 + prefix_len p (xs ++ ys)) 0) each.0 ∙ omega (arith, more)
-
 pub run-all : (p : ℕ → Bool) (xs : List ℕ) → list_all p xs ≡ true → prefix_len p xs ≡ length xs
-run-all p [] h = refl
-run-all p (x ∷ xs) h =
-    let each = and_parts (p x) (list_all p xs) h in
-    let more = run-all p xs each.1 in
-    ap (λ b. cond b (1 + prefix_len p xs) 0) each.0 ∙ omega (arith, more)
+run-all p xs h = let all = passed p xs in grind (arith, nat_tests, all, h)
 
 -- a run ends before a byte that does not pass
 pub run-len : (p : ℕ → Bool) (xs ys : List ℕ) (c : ℕ) → list_all p xs ≡ true → p c ≡ false → prefix_len p (xs ++ (c ∷ ys)) ≡ length xs
-run-len p xs ys c all stops = grind (arith, run-before, add-zero)
+run-len p xs ys c h k =
+    let whole = prefix_len-append p xs (c ∷ ys) in
+    let all = passed p xs in
+    grind (arith, nat_tests, whole, all, h, k)
 
 -- the first byte that passes, after some that do not
 pub place-at : (p : ℕ → Bool) (xs ys : List ℕ) (c : ℕ) → list_all (λ b. not (p b)) xs ≡ true → p c ≡ true
@@ -64,16 +57,6 @@ pub end-stays : (p : ℕ → Bool) (xs : List ℕ) (c : ℕ) → p c ≡ false �
 end-stays p xs c h = grind (arith, last-len, take_all)
 
 -- no byte of a line that is cut ends it
-last-two : (a b c d : Bool) → not (a || b || c || d) ≡ true → not (c || d) ≡ true
-last-two true b c d h = absurd cc
-last-two false true c d h = absurd cc
-last-two false false c d h = h
-
-second : (a b c d : Bool) → not (a || b || c || d) ≡ true → not b ≡ true
-second true b c d h = absurd cc
-second false true c d h = absurd cc
-second false false c d h = refl
-
 abbrev pub goes_on : ℕ → Bool
 goes_on c = not (ends_line c)
 
@@ -81,10 +64,10 @@ abbrev pub not_closing : ℕ → Bool
 not_closing c = not (is_closing c)
 
 on : (xs : List ℕ) → is_part xs ≡ true → list_all goes_on xs ≡ true
-on = all-of is_allowed goes_on (λ c h. last-two (c == 60) (c == 62) (c == 10) (c == 0) h)
+on = all-of is_allowed goes_on (λ c h. grind (arith, nat_tests, h))
 
 pub no-closing : (xs : List ℕ) → is_part xs ≡ true → list_all not_closing xs ≡ true
-no-closing = all-of is_allowed not_closing (λ c h. second (c == 60) (c == 62) (c == 10) (c == 0) h)
+no-closing = all-of is_allowed not_closing (λ c h. grind (arith, nat_tests, h))
 
 pub all-on : (p : Parts) → ArePlain p → list_all goes_on (line_of p) ≡ true
 all-on p are = grind (arith, all-append, after_name, on)

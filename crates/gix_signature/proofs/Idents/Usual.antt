@@ -64,8 +64,7 @@ pub record IsNumber (d : ℕ) (ds : List ℕ) : Type 0 where
   pub short : length (d ∷ ds) ≤ 18
 
 not-true : (b : Bool) → not b ≡ true → b ≡ true → ⊥
-not-true true h k = absurd cc
-not-true false h k = absurd cc
+not-true b h k = grind arith
 
 number-is : (d : ℕ) (ds : List ℕ) → is_usual_number (d ∷ ds) ≡ true → IsNumber d ds
 number-is d [] h = record { alone = λ z. refl; short = omega arith }

@@ -107,8 +107,7 @@ text-is n b v h =
     ∙ ap₂ (λ mark digits. decimal n ++ (space ∷ (mark ∷ digits))) (mark-is n b v) (pairs-of (signed b v) v size h)
 
 sign-by : (s : ℕ) (b : Bool) → is_sign s ≡ true → is_minus s ≡ b → s ≡ cond b minus plus
-sign-by s true h e = grind (arith, nat_tests, e)
-sign-by s false h e = grind (arith, nat_tests, e, h)
+sign-by s b h e = grind (arith, nat_tests, e, h)
 
 pub usual-back : (d : ℕ) (ds : List ℕ) (s : ℕ) (zs : List ℕ) → list_all is_ascii_digit (d ∷ ds) ≡ true → (is_zero d ≡ true → ds ≡ [])
     → digits_value 10 (d ∷ ds) < too_many_seconds → is_sign s ≡ true → ArePairs zs

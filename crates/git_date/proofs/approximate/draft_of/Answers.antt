@@ -1,5 +1,5 @@
 use Rattle.std.proofs.Common.{sym, subst}
-use Rattle.gix_date.specs.Relative.Steps.{zone_of}
+use Rattle.jiff.specs.Words.{plain_zone}
 use Rattle.git_date.specs.Approximate.Reading.{approximate_step, draft_of}
 use Rattle.git_date.specs.Approximate.Drafts.{first_draft}
 use Rattle.git_date.specs.Exact.Zones.{states_of}
@@ -11,29 +11,30 @@ use Rattle.git_date.proofs.approximate.draft_of.Goals as goal
 pub tokens-init : goal.tokens-init
 unfolding draft_of
 tokens-init c =
-    subst (λ (d : Draft). Left (approximate_step (states_of (zone_of c.args.moment)) c.args.today.now)
-    (draft_of (states_of (zone_of c.args.moment)) c.args.today.now c.args.text.now) c.args.text.now d) (sym c.first-draft.ensures)
-    (left-all (approximate_step (states_of (zone_of c.args.moment)) c.args.today.now) c.args.text.now (first_draft c.args.today.now.shown))
+    subst (λ (d : Draft). Left (approximate_step (states_of (plain_zone c.args.zone.now)) c.args.today.now)
+    (draft_of (states_of (plain_zone c.args.zone.now)) c.args.today.now c.args.text.now) c.args.text.now d) (sym c.first-draft.ensures)
+    (left-all (approximate_step (states_of (plain_zone c.args.zone.now)) c.args.today.now) c.args.text.now
+    (first_draft c.args.today.now.shown))
 
 pub tokens-preserved : goal.tokens-preserved
 tokens-preserved c =
-    left-next (approximate_step (states_of (zone_of c.args.moment)) c.args.today.now)
-    (draft_of (states_of (zone_of c.args.moment)) c.args.today.now c.args.text.now) c.tokens.rest.now c.in-Some.after.now
+    left-next (approximate_step (states_of (plain_zone c.args.zone.now)) c.args.today.now)
+    (draft_of (states_of (plain_zone c.args.zone.now)) c.args.today.now c.args.text.now) c.tokens.rest.now c.in-Some.after.now
     c.in-Ok.step.1.now c.tokens.draft c.in-Ok.step.0
     (token_of c.in-Some.token) c.tokens.invariant c.in-Some.ensures.tokens c.in-Some.ensures.shorter
-    (draft-next (states_of (zone_of c.args.moment)) c.args.today.now c.tokens.draft c.in-Ok.step.0 (token_of c.in-Some.token) _ _
+    (draft-next (states_of (plain_zone c.args.zone.now)) c.args.today.now c.tokens.draft c.in-Ok.step.0 (token_of c.in-Some.token) _ _
     c.in-Ok.ensures.value) c.in-Ok.ensures.shorter
 
 pub returns : goal.returns
-returns c = left-none (approximate_step (states_of (zone_of c.args.moment)) c.args.today.now)
-    (draft_of (states_of (zone_of c.args.moment)) c.args.today.now c.args.text.now) c.tokens.rest.now c.tokens.draft c.tokens.invariant
+returns c = left-none (approximate_step (states_of (plain_zone c.args.zone.now)) c.args.today.now)
+    (draft_of (states_of (plain_zone c.args.zone.now)) c.args.today.now c.args.text.now) c.tokens.rest.now c.tokens.draft c.tokens.invariant
     c.in_default.ensures.tokens
 
 pub returns-in-Err : goal.returns-in-Err
 returns-in-Err c =
-    left-ends (approximate_step (states_of (zone_of c.args.moment)) c.args.today.now)
-    (draft_of (states_of (zone_of c.args.moment)) c.args.today.now c.args.text.now) _ c.tokens.rest.now c.in-Some.after.now
+    left-ends (approximate_step (states_of (plain_zone c.args.zone.now)) c.args.today.now)
+    (draft_of (states_of (plain_zone c.args.zone.now)) c.args.today.now c.args.text.now) _ c.tokens.rest.now c.in-Some.after.now
     c.tokens.draft (token_of c.in-Some.token)
     c.tokens.invariant c.in-Some.ensures.tokens c.in-Some.ensures.shorter
-    (draft-refused (states_of (zone_of c.args.moment)) c.args.today.now c.tokens.draft (token_of c.in-Some.token) _ c.in-Err.fault
+    (draft-refused (states_of (plain_zone c.args.zone.now)) c.args.today.now c.tokens.draft (token_of c.in-Some.token) _ c.in-Err.fault
     c.in-Err.ensures.value)

@@ -8,12 +8,13 @@ use Rattle.git_date.proofs.zones.nearest.Goals.{After-flagged_at}
 use Rattle.git_date.proofs.zones.nearest.Goals as goal
 
 pub steps-init : goal.steps-init
-steps-init c = none-yet (states_of (plain_zone c.args.zone)) c.args.flag _
+steps-init c = none-yet (states_of (plain_zone c.args.zone.now)) c.args.flag _
 
 -- all steps come to what this one comes to, as none before it finds one
-here : (c : After-flagged_at) → nearest c.steps.steps (states_of (plain_zone c.args.zone)) c.args.flag c.args.instant ≡ c.flagged_at.result
+here : (c : After-flagged_at)
+    → nearest c.steps.steps (states_of (plain_zone c.args.zone.now)) c.args.flag c.args.instant ≡ c.flagged_at.result
 here c =
-    let zone = states_of (plain_zone c.args.zone) in
+    let zone = states_of (plain_zone c.args.zone.now) in
     let instant = c.args.instant in
     let steps = c.steps.steps in
     let fits : FitsSigned w64 instant = search rules in
@@ -33,7 +34,7 @@ returns-in-Some-clause-value c =
     let few : c.steps.steps ≤ flag_steps = omega arith in
     let offset_fits : FitsSigned w32 c.in-Some.offset = search rules in
     simp to_z-of_z
-    (sym (found-by (states_of (plain_zone c.args.zone)) c.args.flag c.args.instant c.steps.steps flag_steps c.in-Some.offset few
+    (sym (found-by (states_of (plain_zone c.args.zone.now)) c.args.flag c.args.instant c.steps.steps flag_steps c.in-Some.offset few
     (here (goal.at.returns-in-Some-clause-value c).After-flagged_at ∙ c.in-Some.is)))
 
 pub steps-preserved : goal.steps-preserved

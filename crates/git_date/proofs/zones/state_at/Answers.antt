@@ -14,7 +14,7 @@ state offset daylight = record { offset = offset; daylight = daylight }
 
 pub returns-in-Ok-clause-value : goal.returns-in-Ok-clause-value
 returns-in-Ok-clause-value c =
-    let zone = plain_zone c.args.zone in
+    let zone = plain_zone c.args.zone.now in
     let s = c.args.seconds in
     let fits : FitsSigned w64 s = search rules in
     let offset_fits : FitsSigned w32 c.seconds.result = search rules in
@@ -27,7 +27,7 @@ returns-in-Ok-clause-value c =
 
 pub returns-clause-value : goal.returns-clause-value
 returns-clause-value c =
-    let zone = plain_zone c.args.zone in
+    let zone = plain_zone c.args.zone.now in
     let s = c.args.seconds in
     let fits : FitsSigned w64 s = search rules in
     let offset_fits : FitsSigned w32 c.seconds-2.result = search rules in

@@ -1,5 +1,6 @@
 //! The clock and the offset of a Git text.
-ghost use Rattle.std.specs.Prelude.{◌≡◌, ◌<◌, ◌≤◌, ◌==◌, IfSome, [], ◌∷◌, None, MatchOption};
+ghost use Rattle.std.specs.Prelude.{◌≡◌, ◌<◌, ◌≤◌, ◌==◌, IfSome, [], ◌∷◌, Some, None, MatchOption};
+ghost use Rattle.std.specs.Str.{IsUtf8};
 ghost use Rattle.std.specs.Char.{is_ascii};
 ghost use Rattle.std.specs.List.{list_all, before_first};
 ghost use Rattle.gix_date.specs as Spec;
@@ -21,7 +22,48 @@ pub(crate) fn parse_clock(text: &str) -> Option<ClockFields>
     ensures value { result ≡ Spec.git_clock text.now }
     ensures fits { IfSome result Spec.ClockFits }
 {
+    if let Some(clock) = usual_clock(text.as_bytes()) {
+        return Some(clock);
+    }
     parse_trimmed_clock(trimmed(before('.', text)))
+}
+
+/// The clock of `20:30:45` or `20:30`, as nearly all are. `None` means only that a text has another form.
+#[inline(always)]
+fn usual_clock(text: &[u8]) -> Option<ClockFields>
+    requires { IsUtf8 text.now }
+    ensures value { IfSome result (λ c. Spec.git_clock text.now ≡ Some c) }
+    ensures fits { IfSome result Spec.ClockFits }
+{
+    match text {
+        [a, b, colon, c, d, again, e, f] if *colon == b':' && *again == b':' => {
+            let hour = parse_two_digits(*a, *b)?;
+            let minute = parse_two_digits(*c, *d)?;
+            let second = parse_two_digits(*e, *f)?;
+            if hour > MAX_HOUR || minute > MAX_MINUTE || second > MAX_SECOND {
+                return None;
+            }
+            Some(ClockFields {
+                hour,
+                minute,
+                second,
+            })
+        }
+        [a, b, colon, c, d] if *colon == b':' => {
+            let hour = parse_two_digits(*a, *b)?;
+            let minute = parse_two_digits(*c, *d)?;
+            if hour > MAX_HOUR || minute > MAX_MINUTE {
+                return None;
+            }
+            let second = 0;
+            Some(ClockFields {
+                hour,
+                minute,
+                second,
+            })
+        }
+        _ => None,
+    }
 }
 
 /// The clock of a text that has neither its dot nor white space round it.

@@ -1,11 +1,9 @@
 use Rattle.std.proofs.Common.{rules, ◌≡◌, ◌∙◌, ◌^◌, ◌-ℤ◌, ℤ, pos, neg_ℤ, true, Option, Some, ap, sym, subst, arith, FitsSigned, w64, w32}
 use Rattle.std.proofs.lemmas.Int.{to_z-of_z}
-use Rattle.jiff.specs.Types.{TimeZone}
 use Rattle.jiff.specs.Words.{plain_zone}
 use Rattle.jiff_core.proofs.SignedLemmas.{signed_arith}
 use Rattle.jiff_core.specs.Calendar.{IsBetween}
 use Rattle.gix_date.specs.Fields.Zoned.{is_instant}
-use Rattle.gix_date.specs.Relative.Steps.{zone_of}
 use Rattle.git_date.specs.Exact.Zones.{states_of, before_leap, found_offset}
 use Rattle.git_date.specs.declared.approximate.zone.Found.{Found}
 use Rattle.git_date.proofs.Guesses.ZoneClocks.{found-near, found-there}
@@ -46,20 +44,15 @@ returns-clause-value c =
     let guess_fits : FitsSigned w32 c.in_ok-guess.guess = search rules in
     let from_fits : FitsSigned w64 c.from.result = search rules in
     let instant_fits : FitsSigned w64 (c.args.local -ℤ c.from.result) = left_fits (goal.at.returns-clause-value c).After-from in
-    let there : Some c.in_ok-guess.guess ≡ found_offset (states_of (plain_zone c.time_zone.result))
+    let there : Some c.in_ok-guess.guess ≡ found_offset (states_of (plain_zone c.args.zone.now))
     (record { clock = c.before_leap.result; daylight = Some c.args.last.daylight }) c.args.last.guess =
     simp to_z-of_z at c.in_ok-guess.ensures.value in
-    let is : Some c.in_ok-guess.guess ≡ found_offset (states_of (zone_of c.args.moment))
+    let is : Some c.in_ok-guess.guess ≡ found_offset (states_of (plain_zone c.args.zone.now))
     (record { clock = before_leap c.args.leap c.args.local; daylight = Some c.args.last.daylight }) c.args.last.guess =
-    subst (λ (s : ℤ). Some c.in_ok-guess.guess
-    ≡ found_offset (states_of (zone_of c.args.moment)) (record { clock = s; daylight = Some c.args.last.daylight }) c.args.last.guess)
-    asked
-    (subst (λ (tz : TimeZone). Some c.in_ok-guess.guess
-    ≡ found_offset (states_of tz) (record { clock = c.before_leap.result; daylight = Some c.args.last.daylight }) c.args.last.guess)
-    c.time_zone.ensures there) in
+    rw asked at there in
     simp to_z-of_z
     (ap (found_from c.args.local c.in_ok-guess.guess) h.0
-    ∙ found-there (states_of (zone_of c.args.moment)) c.args.last c.args.leap c.args.local c.in_ok-guess.guess is)
+    ∙ found-there (states_of (plain_zone c.args.zone.now)) c.args.last c.args.leap c.args.local c.in_ok-guess.guess is)
 
 pub returns-clause-small : goal.returns-clause-small
 returns-clause-small c =

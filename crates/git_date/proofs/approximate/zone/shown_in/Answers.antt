@@ -1,15 +1,14 @@
-use Rattle.std.proofs.Common.{rules, ◌≡◌, ◌∙◌, ◌+ℤ◌, ℤ, Bool, Option, Some, None, ap, subst, arith, FitsSigned, w64, w32}
+use Rattle.std.proofs.Common.{rules, ◌≡◌, ◌∙◌, ◌+ℤ◌, ℤ, Bool, Option, Some, None, ap, arith, FitsSigned, w64, w32}
 use Rattle.std.proofs.lemmas.Int.{to_z-of_z}
-use Rattle.jiff.specs.Types.{TimeZone}
 use Rattle.jiff.specs.Words.{plain_zone}
 use Rattle.jiff_core.proofs.SignedLemmas.{signed_arith}
 use Rattle.gix_date.proofs.Fields.Instants.{instant_holds}
 use Rattle.gix_date.specs.Fields.Layout.{LocalTime}
-use Rattle.gix_date.specs.Relative.Steps.{zone_of}
 use Rattle.git_date.specs.Approximate.Clocks.{clock_shown_at}
 use Rattle.git_date.specs.Exact.Zones.{states_of}
 use Rattle.git_date.specs.declared.approximate.zone.ZoneClock.{ZoneClock}
-use Rattle.git_date.proofs.Guesses.ZoneClocks.{is-instant-of, shown-there}
+use Rattle.git_date.proofs.Guesses.ZoneClocks.{shown-there}
+use Rattle.git_date.proofs.Exact.ZoneOffsets.{is-instant-there}
 use Rattle.git_date.proofs.approximate.zone.shown_in.Goals.{After-from}
 use Rattle.git_date.proofs.approximate.zone.shown_in.Goals as goal
 
@@ -18,17 +17,15 @@ shown_there daylight clock = Some (record { clock = clock; daylight = daylight }
 
 -- the zone says what is there, and the clock that it shows fits
 said : (c : After-from)
-    → (Some c.in_ok-there.there ≡ states_of (zone_of c.args.moment) c.args.instant) × (c.from.result ≡ c.in_ok-there.there.offset)
+    → (Some c.in_ok-there.there ≡ states_of (plain_zone c.args.zone.now) c.args.instant) × (c.from.result ≡ c.in_ok-there.there.offset)
     × FitsSigned w64 (c.args.instant +ℤ c.from.result)
 said c =
     let s = c.args.instant in
     let there = c.in_ok-there.there in
     let fits : FitsSigned w64 s = search rules in
     let offset_fits : FitsSigned w32 there.offset = search rules in
-    let at : Some there ≡ states_of (plain_zone c.time_zone.result) s = simp to_z-of_z at c.in_ok-there.ensures.value in
-    let says : Some there ≡ states_of (zone_of c.args.moment) s =
-    subst (λ (tz : TimeZone). Some there ≡ states_of tz s) c.time_zone.ensures at in
-    let within = instant_holds s (is-instant-of (zone_of c.args.moment) s there says) in
+    let says : Some there ≡ states_of (plain_zone c.args.zone.now) s = simp to_z-of_z at c.in_ok-there.ensures.value in
+    let within = instant_holds s (is-instant-there (plain_zone c.args.zone.now) s there says) in
     let near = c.in_ok-there.ensures.near in
     let from : c.from.result ≡ there.offset = simp to_z-of_z at c.from.ensures in
     (says, from, omega (arith, signed_arith, within, near, from))
@@ -45,7 +42,7 @@ returns c =
     let shown : Some c.in_ok-shown.shown ≡ clock_shown_at (s +ℤ c.from.result) = simp to_z-of_z at c.in_ok-shown.ensures in
     let moved = simp to_z-of_z at c.with_offset.ensures in
     ap (shown_there there.daylight) moved
-    ∙ shown-there (states_of (zone_of c.args.moment)) s there (Some c.in_ok-shown.shown) h.0
+    ∙ shown-there (states_of (plain_zone c.args.zone.now)) s there (Some c.in_ok-shown.shown) h.0
     (shown ∙ ap (λ (o : ℤ). clock_shown_at (s +ℤ o)) h.1)
 
 pub returns-in_err-shown : goal.returns-in_err-shown
@@ -58,4 +55,4 @@ returns-in_err-shown c =
     let sum_fits : FitsSigned w64 (s +ℤ c.from.result) = h.2 in
     let shown : None ≡ clock_shown_at (s +ℤ c.from.result) = simp to_z-of_z at c.in_err-shown.ensures in
     c.from_residual-in_err-shown.ensures
-    ∙ shown-there (states_of (zone_of c.args.moment)) s there None h.0 (shown ∙ ap (λ (o : ℤ). clock_shown_at (s +ℤ o)) h.1)
+    ∙ shown-there (states_of (plain_zone c.args.zone.now)) s there None h.0 (shown ∙ ap (λ (o : ℤ). clock_shown_at (s +ℤ o)) h.1)
